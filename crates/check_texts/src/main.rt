@@ -3,7 +3,6 @@
 
 use check_hex::input::read_full;
 use check_hex::{find, report};
-use import_scan::Scanned;
 use std::io;
 
 // "Text outside the grammar with 24".
@@ -12,8 +11,8 @@ const OUTSIDE: u32 = 24;
 fn line(rt: &impl Print, text: &[u8]) -> io::Result<()> {
     report::line(rt, text)?;
     match import_scan::scan(text) {
-        Scanned::Fine => report::refusal(rt, 0, 0),
-        Scanned::Stops(i) => report::refusal(rt, OUTSIDE, i),
+        Ok(()) => report::refusal(rt, 0, 0),
+        Err(i) => report::refusal(rt, OUTSIDE, i),
     }
 }
 

@@ -8,6 +8,7 @@ use Rattle.theory.specs.Command.{read_in, goes_on}
 use Rattle.model_command.specs.declared.Command.{Command as CodeCommand}
 use Rattle.model_command.specs.declared.Command.TheVariants.{Site, Leaf, Condition, Test, Forbidden, Give, Name, End}
 use Rattle.model_command.specs.CursorReadings.{CodeRead}
+use Rattle.model_command.specs.declared.CommandError.{CommandError}
 use Rattle.model_command.specs.declared.CommandError.TheVariants.{Unknown, Short}
 use Rattle.std.specs.Prelude.{Ok, Err}
 use Rattle.model_command.specs.CursorReadings.{command_of_in, read_of_in}
@@ -30,10 +31,6 @@ reading_cases P w u s (Ok c) = w c
 reading_cases P w u s (Err Unknown) = u
 reading_cases P w u s (Err Short) = s
 
--- a reading that is no command
-pub no_whole : (P : CodeRead → Type 0) → P (Err Unknown) → P (Err Short) → (r : CodeRead) → ((c : CodeCommand) → r ≡ Ok c → ⊥) → P r
-no_whole P u s = reading_cases (λ (r : CodeRead). ((c : CodeCommand) → r ≡ Ok c → ⊥) → P r) (λ c k. absurd (k c refl)) (λ k. u) (λ k. s)
-
 pub ends_here : (r : CodeRead) (c : CodeCommand) → r ≡ Ok c → c ≡ End → false ≡ reads_on r
 unfolding reads_on
 ends_here r c e d = sym (ap reads_on e ∙ ap (λ (c : CodeCommand). reads_on (Ok c)) d)
@@ -44,9 +41,9 @@ another r c e k =
     sym (ap reads_on e ∙ command_cases (λ (c : CodeCommand). (c ≡ End → ⊥) → reads_on (Ok c) ≡ true)
     (λ m n a w k. refl) (λ k. refl) (λ i k. refl) (λ k. refl) (λ k. refl) (λ g a j k. refl) (λ a k. refl) (λ k. absurd (k refl)) c k)
 
-pub no_command : (r : CodeRead) → ((c : CodeCommand) → r ≡ Ok c → ⊥) → false ≡ reads_on r
+pub failed : (r : CodeRead) (e : CommandError) → r ≡ Err e → false ≡ reads_on r
 unfolding reads_on
-no_command = no_whole (λ (r : CodeRead). false ≡ reads_on r) refl refl
+failed r e f = sym (ap reads_on f)
 
 -- the code's answer is the definition's
 pub goes_as : (F : Form) (B : List ℕ) (at : ℕ) (r : CodeRead) → read_of_in F B at r ≡ read_in F B at → reads_on r ≡ goes_on (read_in F B at)

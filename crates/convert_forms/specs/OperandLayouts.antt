@@ -2,7 +2,6 @@
 use Rattle.std.specs.Prelude.{Bool, true, false, ℕ, ◌+◌}
 use Rattle.theory.specs.Form.{Form}
 use Rattle.model_command.specs.CursorReadings.{CodeRead}
-use Rattle.model_command.specs.declared.CommandError.TheVariants.{Unknown, Short}
 use Rattle.std.specs.Prelude.{Ok, Err}
 use Rattle.model_command.specs.declared.Command.TheVariants.{Site, Leaf, Condition, Test, Forbidden, Give, Name, End}
 use Rattle.convert_forms.specs.declared.layouts.Layout.{Layout as CodeLayout}
@@ -26,5 +25,4 @@ reads_on (Ok Forbidden) = true
 reads_on (Ok (Give c a i)) = true
 reads_on (Ok (Name a)) = true
 reads_on (Ok End) = false
-reads_on (Err Unknown) = false
-reads_on (Err Short) = false
+reads_on (Err e) = false

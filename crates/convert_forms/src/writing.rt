@@ -15,10 +15,9 @@ use model_form::Form;
 pub fn goes_on(read: Result<Command, CommandError>) -> bool
     ensures { result ≡ reads_on read }
 {
-    if let Ok(c) = read {
-        if let Command::End = c { false } else { true }
-    } else {
-        false
+    match read {
+        Ok(c) => !matches!(c, Command::End),
+        Err(_) => false,
     }
 }
 
@@ -46,12 +45,10 @@ fn put_fitted(
     requires { (at + wanted ≤ length out.old) × (from + size < 9223372036854775808) }
     ensures { PutAt out.old at (fitted wanted (copied model.now from size)) result out.new }
 {
-    let mut j = 0;
-    while j < wanted {
+    for j in 0..wanted {
         out[at + j] = operand_byte(model, from, size, j);
-        j += 1;
     }
-    at + j
+    at + wanted
 }
 
 // One command in another form.

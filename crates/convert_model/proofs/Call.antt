@@ -12,7 +12,7 @@ use Rattle.theory.specs.Form.{Form, old_form, new_form, levels_in, actions_in, b
 use Rattle.theory.specs.Command.{byte_at, action_at}
 use Rattle.theory.specs.Verdict.{Site, Verdict, refusal, verdict_in, or}
 use Rattle.theory.specs.Load.{site_in}
-use Rattle.theory.specs.Listing.{written, ListingOut}
+use Rattle.theory.specs.Listing.{ListingOut}
 use Rattle.text_decimal.specs.Put.{PutAt}
 use Rattle.model.specs.declared.Verdict.{Verdict as CodeVerdict}
 use Rattle.model.specs.Answers.{shown}

@@ -8,9 +8,10 @@ use Rattle.theory.specs.Command.{read_in}
 use Rattle.model_command.specs.declared.Command.{Command as CodeCommand}
 use Rattle.model_command.specs.declared.Command.TheVariants.{Forbidden}
 use Rattle.model_command.specs.CursorReadings.{CodeRead}
-use Rattle.std.specs.Prelude.{Ok}
+use Rattle.model_command.specs.declared.CommandError.{CommandError}
+use Rattle.std.specs.Prelude.{Ok, Err}
 use Rattle.model_command.specs.CursorReadings.{command_of_in, read_of_in}
-use Rattle.convert_forms.proofs.ReadingSteps.{command_cases, reading_cases, no_whole}
+use Rattle.convert_forms.proofs.ReadingSteps.{command_cases, reading_cases}
 use Rattle.convert_model.specs.Conversion.{is_forbidden}
 use Rattle.convert_model.specs.Written.{reads_forbidden}
 
@@ -24,9 +25,9 @@ not_13 r c e k =
     sym (ap reads_forbidden e ∙ command_cases (λ (c : CodeCommand). (c ≡ Forbidden → ⊥) → reads_forbidden (Ok c) ≡ false)
     (λ m n a w k. refl) (λ k. refl) (λ i k. refl) (λ k. refl) (λ k. absurd (k refl)) (λ g a j k. refl) (λ a k. refl) (λ k. refl) c k)
 
-pub none_read : (r : CodeRead) → ((c : CodeCommand) → r ≡ Ok c → ⊥) → false ≡ reads_forbidden r
+pub failed : (r : CodeRead) (e : CommandError) → r ≡ Err e → false ≡ reads_forbidden r
 unfolding reads_forbidden
-none_read = no_whole (λ (r : CodeRead). false ≡ reads_forbidden r) refl refl
+failed r e f = sym (ap reads_forbidden f)
 
 pub forbids_as : (F : Form) (B : List ℕ) (at : ℕ) (r : CodeRead) → read_of_in F B at r ≡ read_in F B at → reads_forbidden r ≡ is_forbidden (read_in F B at)
 unfolding reads_forbidden is_forbidden read_of_in command_of_in

@@ -2,7 +2,6 @@
 use Rattle.std.specs.Prelude.{Bool, true, false, List, ℕ}
 use Rattle.theory.specs.Listing.{ListingOut}
 use Rattle.model_command.specs.CursorReadings.{CodeRead}
-use Rattle.model_command.specs.declared.CommandError.TheVariants.{Unknown, Short}
 use Rattle.std.specs.Prelude.{Ok, Err}
 use Rattle.model_command.specs.declared.Command.TheVariants.{Site, Leaf, Condition, Test, Forbidden, Give, Name, End}
 use Rattle.convert_model.specs.declared.Converted.{Converted}
@@ -17,8 +16,7 @@ reads_forbidden (Ok Forbidden) = true
 reads_forbidden (Ok (Give c a i)) = false
 reads_forbidden (Ok (Name a)) = false
 reads_forbidden (Ok End) = false
-reads_forbidden (Err Unknown) = false
-reads_forbidden (Err Short) = false
+reads_forbidden (Err e) = false
 
 -- the outcome that the code gives, with the buffer as it is left
 abbrev pub outcome_as : Converted → List ℕ → ListingOut

@@ -12,14 +12,9 @@ use model_form::Form;
 fn is_forbidden(read: Result<Command, CommandError>) -> bool
     ensures { result ≡ reads_forbidden read }
 {
-    if let Ok(c) = read {
-        if let Command::Forbidden = c {
-            true
-        } else {
-            false
-        }
-    } else {
-        false
+    match read {
+        Ok(c) => matches!(c, Command::Forbidden),
+        Err(_) => false,
     }
 }
 

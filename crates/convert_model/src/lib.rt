@@ -65,10 +65,7 @@ fn too_large(from: Form, to: Form, model: &[u8], size: usize) -> bool
     if to.levels() < usize::from(byte_at(model, 1)) {
         return true;
     }
-    if to.actions() < usize::from(action_in(from, model, 3)) {
-        return true;
-    }
-    bytes_most(to) < size
+    to.actions() < usize::from(action_in(from, model, 3)) || bytes_most(to) < size
 }
 
 // What does not fit: "A model with 13 does not fit the old form".
@@ -78,11 +75,7 @@ fn unfit(from: Form, to: Form, model: &[u8], size: usize) -> bool
     if too_large(from, to, model, size) {
         return true;
     }
-    if to.forbidden_bytes() == 0 {
-        forbidding::forbids(from, model)
-    } else {
-        false
-    }
+    to.forbidden_bytes() == 0 && forbidding::forbids(from, model)
 }
 
 fn refused(number: u32, place: usize) -> Converted

@@ -7,10 +7,10 @@ ghost use Rattle.import_cases.specs.Cases.{end_side as end-side-of, ending as En
 ghost use Rattle.import_cases.specs.Cases.{on_atom as on-atom-of, on_compared as on-compared-of, on_result as on-result-of};
 
 use import_state::bytes::{CHANCE, ELSE, END, FORBIDDEN, REWARD, is_digit};
-use import_state::sums::{begun, bound, closed, end_const, next_term, on_factor};
 use import_state::{DEEPEST, Place, Side, State, Sum, Token};
 
 // An item's first letter: reward, chance, next or name, end.
+#[tactic(auto, unfolding(crate::specs::Cases::item))]
 pub fn item(k: u8) -> State
     ensures { result ≡ item_of k }
 {
@@ -24,107 +24,86 @@ pub fn item(k: u8) -> State
 }
 
 // After a result: another case or the else, or another item.
+#[tactic(auto, unfolding(crate::specs::Cases::resulted))]
 pub fn resulted(side: Side, k: u8) -> State
     ensures { result ≡ resulted-of side k }
 {
     match side {
-        Side::Left => State::Dead,
-        Side::Right => State::Dead,
-        Side::Case => if k == b';' {
-            State::At(Place::Atom(DEEPEST, DEEPEST, true))
-        } else {
-            State::Dead
-        },
+        Side::Case if k == b';' => State::At(Place::Atom(DEEPEST, DEEPEST, true)),
         Side::Last => item(k),
+        _ => State::Dead,
     }
 }
 
 // After an atom.
+#[tactic(auto, unfolding(crate::specs::Cases::joined))]
 pub fn joined(room: u8, k: u8) -> State
     ensures { result ≡ Joined-of room k }
 {
     match k {
-        b'&' => State::At(Place::Atom(room, room, false)),
-        b'|' => State::At(Place::Atom(room, room, false)),
-        b')' => if room < DEEPEST {
-            State::At(Place::Held(room + 1))
-        } else {
-            State::Dead
-        },
-        b':' => if room == DEEPEST {
-            State::At(Place::Result(Side::Case))
-        } else {
-            State::Dead
-        },
+        b'&' | b'|' => State::At(Place::Atom(room, room, false)),
+        b')' if room < DEEPEST => State::At(Place::Held(room + 1)),
+        b':' if room == DEEPEST => State::At(Place::Result(Side::Case)),
         _ => State::Dead,
     }
 }
 
 // After the left side of a comparison, or a sum in a bracket that might have been a condition's.
+#[tactic(auto, unfolding(crate::specs::Cases::end_left))]
 fn end_left(s: Sum, k: u8) -> State
     ensures { result ≡ end-left-of s k }
 {
     match k {
-        b'<' => State::At(Place::Compared(s.room, true)),
-        b'>' => State::At(Place::Compared(s.room, true)),
-        b')' => if s.room < s.hard {
+        b'<' | b'>' => State::At(Place::Compared(s.room, true)),
+        b')' if s.room < s.hard => {
             let out = s.room + 1;
-            State::At(Place::After(closed(s, out, out), false))
-        } else {
-            State::Dead
-        },
+            State::At(Place::After(s.closed(out, out), false))
+        }
         _ => State::Dead,
     }
 }
 
+#[tactic(auto, unfolding(crate::specs::Cases::end_side))]
 fn end_side(side: Side, s: Sum, k: u8) -> State
     ensures { result ≡ end-side-of side s k }
 {
     match side {
         Side::Left => end_left(s, k),
         Side::Right => joined(s.room, k),
-        Side::Case => resulted(Side::Case, k),
-        Side::Last => resulted(Side::Last, k),
+        Side::Case | Side::Last => resulted(side, k),
     }
 }
 
 // After a sum.
+#[tactic(auto, unfolding(crate::specs::Cases::ending))]
 fn ending(s: Sum, k: u8) -> State
     ensures { result ≡ Ending-of s k }
 {
-    if s.room < s.top {
-        if k == b')' {
-            return State::At(Place::After(closed(s, s.room + 1, s.top), false));
-        }
-        return State::Dead;
+    if s.room >= s.top {
+        end_side(s.side, s, k)
+    } else if k == b')' {
+        State::At(Place::After(s.closed(s.room + 1, s.top), false))
+    } else {
+        State::Dead
     }
-    let side = s.side;
-    end_side(side, s, k)
 }
 
 // After a term.
+#[tactic(auto, unfolding(crate::specs::Cases::on_after))]
 pub fn on_after(s: Sum, more: bool, k: u8) -> State
     ensures { result ≡ on-after-of s more k }
 {
-    if is_digit(k) {
-        return if more {
-            State::At(Place::After(s, true))
-        } else {
-            State::Dead
-        };
-    }
     match k {
+        _ if is_digit(k) && more => State::At(Place::After(s, true)),
+        _ if is_digit(k) => State::Dead,
         b'*' => State::At(Place::Factor(s, false)),
-        b'+' => State::At(Place::Factor(next_term(s), false)),
-        b'-' => State::At(Place::Factor(next_term(s), false)),
-        _ => if bound(s) {
-            end_const(s, k)
-        } else {
-            ending(s, k)
-        },
+        b'+' | b'-' => State::At(Place::Factor(s.next_term(), false)),
+        _ if s.bound() => s.end_const(k),
+        _ => ending(s, k),
     }
 }
 
+#[tactic(auto, unfolding(crate::specs::Cases::open_cond))]
 fn open_cond(room: u8, hard: u8) -> State
     ensures { result ≡ open-cond-of room hard }
 {
@@ -136,48 +115,45 @@ fn open_cond(room: u8, hard: u8) -> State
 }
 
 // An atom is expected, or, where it may stand, the else.
+#[tactic(auto, unfolding(crate::specs::Cases::on_atom))]
 pub fn on_atom(room: u8, hard: u8, first: bool, k: u8) -> State
     ensures { result ≡ on-atom-of room hard first k }
 {
-    if is_digit(k) {
-        return State::At(Place::After(begun(Side::Left, room, hard), true));
-    }
     match k {
-        b'L' => State::In(Token::Level(begun(Side::Left, room, hard))),
-        b'C' => State::In(Token::Condition(room)),
-        b'N' => State::In(Token::Condition(room)),
+        _ if is_digit(k) => State::At(Place::After(Sum::begun(Side::Left, room, hard), true)),
+        b'L' => State::In(Token::Level(Sum::begun(Side::Left, room, hard))),
+        b'C' | b'N' => State::In(Token::Condition(room)),
         b'(' => open_cond(room, hard),
-        b'-' => State::At(Place::Factor(begun(Side::Left, room, hard), false)),
+        b'-' => State::At(Place::Factor(Sum::begun(Side::Left, room, hard), false)),
         b'!' => State::At(Place::Atom(room, room, false)),
-        b'e' => if first {
-            State::In(Token::Word(ELSE))
-        } else {
-            State::Dead
-        },
+        b'e' if first => State::In(Token::Word(ELSE)),
         _ => State::Dead,
     }
 }
 
 // Behind < or >: "<=" and ">=" are one token.
+#[tactic(auto, unfolding(crate::specs::Cases::on_compared))]
 pub fn on_compared(room: u8, more: bool, k: u8) -> State
     ensures { result ≡ on-compared-of room more k }
 {
-    if k == b'=' {
-        return if more {
-            State::At(Place::Factor(begun(Side::Right, room, 0), true))
-        } else {
-            State::Dead
-        };
+    let right = Sum::begun(Side::Right, room, 0);
+    if k != b'=' {
+        right.on_factor(true, k)
+    } else if more {
+        State::At(Place::Factor(right, true))
+    } else {
+        State::Dead
     }
-    on_factor(begun(Side::Right, room, 0), true, k)
 }
 
 // A result is expected.
+#[tactic(auto, unfolding(crate::specs::Cases::on_result))]
 pub fn on_result(side: Side, k: u8) -> State
     ensures { result ≡ on-result-of side k }
 {
     if k == b'f' {
-        return State::In(Token::Forbidden(side, FORBIDDEN));
+        State::In(Token::Forbidden(side, FORBIDDEN))
+    } else {
+        Sum::begun(side, DEEPEST, 0).on_factor(true, k)
     }
-    on_factor(begun(side, DEEPEST, 0), true, k)
 }

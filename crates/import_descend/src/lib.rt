@@ -23,10 +23,7 @@ pub struct Down {
 pub fn first_value(first: bool, sign: bool) -> bool
     ensures { result ≡ xor first sign }
 {
-    if first {
-        return !sign;
-    }
-    sign
+    if first { !sign } else { sign }
 }
 
 // An atom goes on the list, and its first outcome comes next.
@@ -57,8 +54,7 @@ pub fn descend(text: &[u8], spot: Spot, list: &mut [u64], count: usize) -> Down
     ensures { Descends text.now spot list.old count result list.new }
 {
     let mut s = spot;
-    let mut n = count;
-    while n <= list.len() {
+    for n in count..=list.len() {
         match s {
             Spot::Atom(at, sign, mask, deep) => {
                 if n >= list.len() {
@@ -72,17 +68,9 @@ pub fn descend(text: &[u8], spot: Spot, list: &mut [u64], count: usize) -> Down
                     both: false,
                 };
                 s = enter(text, e, list, n);
-                n += 1;
             }
-            Spot::Result(i) => {
-                return Down { count: n, at: i };
-            }
-            Spot::Lost => {
-                return nothing();
-            }
-            Spot::Deep => {
-                return nothing();
-            }
+            Spot::Result(i) => return Down { count: n, at: i },
+            Spot::Lost | Spot::Deep => return nothing(),
         }
     }
     nothing()

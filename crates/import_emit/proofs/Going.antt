@@ -15,9 +15,10 @@ use Rattle.import_parts.specs.Parts.{TextPart, site_command, part_commands, part
 use Rattle.import_parts.specs.laws.Order.{text_parts, text_site, text_commands_order}
 use Rattle.import_parts.specs.laws.Within.{parts_within}
 use Rattle.import_parts.specs.laws.Walks.{walk_on, walk_ended, walk_not_ended}
-use Rattle.import_emit_cases.specs.Emitting.{PutBytes}
+use Rattle.import_emit_cases.specs.Emitting.{is_full, place, PutBytes}
 use Rattle.import_emit.specs.Items.{PartsCome, Buffers, PartAt, PartPut, PartsAt, CommandPut, ReadingWithin}
-use Rattle.import_emit_cases.specs.declared.Emitted.{Emitted}
+use Rattle.std.specs.Prelude.{Result, Ok, Err}
+use Rattle.import_emit_cases.specs.declared.Full.{Full}
 use Rattle.import_emit.specs.declared.items.Passed.{Passed}
 use Rattle.import_emit.proofs.Puts.{encode_append, encode_more, inside, put_as, full_before, behind}
 use Rattle.import_emit.proofs.Part.{as_walked}
@@ -61,10 +62,10 @@ module _ (w out₀ : List ℕ) (start : ℕ) (s : start ≤ length out₀) (i at
       go (x ∷ L) k j = record { lent = n; part = x; parts = L; spaces = e; comes = record { inside = k.within; bytes = k.bytes; within = j } }
 
   module _ (r : Passed) (out' : List ℕ) (q : PartPut w i out at r out') (h : i < length w) where
-    gone_on : (P : List TextPart) (e : Spaces) → r.wrote.full ≡ false → Gone w out₀ start P e i at out → Gone w out₀ start P e r.next r.wrote.at out'
+    gone_on : (P : List TextPart) (e : Spaces) → is_full r.wrote ≡ false → Gone w out₀ start P e i at out → Gone w out₀ start P e r.next (place r.wrote) out'
     gone_on P e f g = go g.left g.walked g.within
       where
-        go : (L : List TextPart) → Walked w (parts_commands P ++ (end_model ∷ [])) i g.done L e → parts_within L → Gone w out₀ start P e r.next r.wrote.at out'
+        go : (L : List TextPart) → Walked w (parts_commands P ++ (end_model ∷ [])) i g.done L e → parts_within L → Gone w out₀ start P e r.next (place r.wrote) out'
         go [] k j = absurd (walk_not_ended w _ i g.done e k h)
         go (x ∷ L) k j =
             let c : PartsCome w i (x ∷ L) e = record { inside = k.within; bytes = k.bytes; within = j } in
@@ -77,8 +78,8 @@ module _ (w out₀ : List ℕ) (start : ℕ) (s : start ≤ length out₀) (i at
               put = rename (sym (encode_append g.done (part_commands x))) (then s g.put ((q.put x L e c).put f));
             }
 
-    pub going_on : (from : ℕ) (l l' : List ℕ) → PartsAt w from l out₀ start → length l' ≡ list_most → r.wrote.full ≡ false → ((P : List TextPart) (e : Spaces) → PartsCome w from P e → Gone w out₀ start P e i at out) → length out ≡ length out₀
-        → Going w from out₀ start l' r.next r.wrote.at out'
+    pub going_on : (from : ℕ) (l l' : List ℕ) → PartsAt w from l out₀ start → length l' ≡ list_most → is_full r.wrote ≡ false → ((P : List TextPart) (e : Spaces) → PartsCome w from P e → Gone w out₀ start P e i at out) → length out ≡ length out₀
+        → Going w from out₀ start l' r.next (place r.wrote) out'
     going_on from l l' p n f g m = record {
       same = q.same ∙ m;
       long = n;
@@ -86,7 +87,7 @@ module _ (w out₀ : List ℕ) (start : ℕ) (s : start ≤ length out₀) (i at
       gone = λ P e c. gone_on P e f (g P e c);
     }
 
-    full_at : (P L : List TextPart) (e : Spaces) (done : List Command) → PutAt out₀ start (encode done) at out → length out ≡ length out₀ → r.wrote.full ≡ true
+    full_at : (P L : List TextPart) (e : Spaces) (done : List Command) → PutAt out₀ start (encode done) at out → length out ≡ length out₀ → is_full r.wrote ≡ true
         → Walked w (parts_commands P ++ (end_model ∷ [])) i done L e → parts_within L → PutBytes out₀ start (encode (parts_commands P ++ (end_model ∷ []))) r.wrote out'
     unfolding parts_commands
     full_at P [] e done g m f k j = absurd (walk_not_ended w _ i done e k h)
@@ -97,10 +98,10 @@ module _ (w out₀ : List ℕ) (start : ℕ) (s : start ≤ length out₀) (i at
         let z = encode_append done (part_commands x ++ R) ∙ ap (λ (b : List ℕ). encode done ++ b) (encode_append (part_commands x) R) in
         put_as (sym (ap encode k.commands ∙ y ∙ z)) (behind s m g (full_before (encode R) f (q.put x L e c)))
 
-    pub gone_full : (P : List TextPart) (e : Spaces) → length out ≡ length out₀ → r.wrote.full ≡ true → Gone w out₀ start P e i at out → PutBytes out₀ start (encode (parts_commands P ++ (end_model ∷ []))) r.wrote out'
+    pub gone_full : (P : List TextPart) (e : Spaces) → length out ≡ length out₀ → is_full r.wrote ≡ true → Gone w out₀ start P e i at out → PutBytes out₀ start (encode (parts_commands P ++ (end_model ∷ []))) r.wrote out'
     gone_full P e m f g = full_at P g.left e g.done g.put m f g.walked g.within
 
   -- no part is left at the end
-  pub gone_all : (P : List TextPart) (e : Spaces) {r : Emitted} {out' : List ℕ} → length w ≤ i → length out ≡ length out₀ → CommandPut out at end_model r out' → Gone w out₀ start P e i at out
+  pub gone_all : (P : List TextPart) (e : Spaces) {r : Result ℕ Full} {out' : List ℕ} → length w ≤ i → length out ≡ length out₀ → CommandPut out at end_model r out' → Gone w out₀ start P e i at out
       → PutBytes out₀ start (encode (parts_commands P ++ (end_model ∷ []))) r out'
   gone_all P e h m p g = put_as (encode_more g.done end_model ∙ sym (ap encode (walk_ended w _ i g.done g.left e g.walked h))) (behind s m g.put p.put)

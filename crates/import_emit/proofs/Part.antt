@@ -27,9 +27,10 @@ use Rattle.import_walk.specs.Answers.{SiteAt, OpeningAt, slot_said}
 use Rattle.import_walk.specs.Steps.{site_step, item_step, name_step}
 use Rattle.import_walk.specs.declared.opening.Opening.{Opening}
 use Rattle.import_walk.specs.declared.site.Site.{Site}
-use Rattle.import_emit_cases.specs.Emitting.{PutBytes, CasesBegin, Emitting}
+use Rattle.import_emit_cases.specs.Emitting.{is_full, place, PutBytes, CasesBegin, Emitting}
 use Rattle.import_emit.specs.Items.{CommandPut, NameSpelt, NamePut, ItemPut, PartsCome, Buffers, ReadingWithin}
-use Rattle.import_emit_cases.specs.declared.Emitted.{Emitted}
+use Rattle.std.specs.Prelude.{Result, Ok, Err}
+use Rattle.import_emit_cases.specs.declared.Full.{Full}
 use Rattle.import_emit.proofs.Puts.{encode_one, encode_more, put_as, full_before, behind}
 
 -- ---- no number is above the greatest of its operand
@@ -128,14 +129,14 @@ kind_of e = ap (λ (s : Slot). s.command) e
 
 -- ---- an item with cases
 
-module _ {w out out₁ : List ℕ} {o : Opening} {at : ℕ} {e : Emitted} (m : Emitting w o.next out at e out₁) where
-  pub cases_full : e.full ≡ true → ItemPut w o out at e out₁
+module _ {w out out₁ : List ℕ} {o : Opening} {at : ℕ} {e : Result ℕ Full} (m : Emitting w o.next out at e out₁) where
+  pub cases_full : is_full e ≡ true → ItemPut w o out at e out₁
   cases_full f = record {
     same = m.same;
     commands = λ C i. put_as (encode_more C (give (slot_said o))) (full_before (command_bytes (give (slot_said o))) f (m.commands C i));
   }
 
-  pub cases_then : {r : Emitted} {out₂ : List ℕ} → at ≤ length out → e.full ≡ false → CommandPut out₁ e.at (give (slot_said o)) r out₂ → ItemPut w o out at r out₂
+  pub cases_then : {r : Result ℕ Full} {out₂ : List ℕ} → at ≤ length out → is_full e ≡ false → CommandPut out₁ (place e) (give (slot_said o)) r out₂ → ItemPut w o out at r out₂
   cases_then h f p = record {
     same = p.same ∙ m.same;
     commands = λ C i. put_as (encode_more C (give (slot_said o))) (behind h m.same ((m.commands C i).put f) p.put);
@@ -157,7 +158,7 @@ module _ (w : List ℕ) (from : ℕ) (o : Opening) (a : OpeningAt w from o) (k :
       absurd (k (kind_of (a.slot ∙ (name_walked w _ from [] p q ds r x P e (as_walked w from (name p q ds r x ∷ P) e c)).slot)))
 
   module _ (to : ℕ) (b : Onward w o.next to (item_rest (drop o.next w))) where
-    pub item_puts : {out out' : List ℕ} {at : ℕ} {r : Emitted} → ItemPut w o out at r out' → (x : TextPart) (P : List TextPart) (e : Spaces) → PartsCome w from (x ∷ P) e → PutBytes out at (encode (part_commands x)) r out'
+    pub item_puts : {out out' : List ℕ} {at : ℕ} {r : Result ℕ Full} → ItemPut w o out at r out' → (x : TextPart) (P : List TextPart) (e : Spaces) → PartsCome w from (x ∷ P) e → PutBytes out at (encode (part_commands x)) r out'
     unfolding part_commands
     item_puts i (item B p q r) P e c =
         let s = item_step w _ from [] B p q r P e o to (as_walked w from (item B p q r ∷ P) e c) a b in
@@ -176,7 +177,7 @@ module _ (w : List ℕ) (from : ℕ) (o : Opening) (a : OpeningAt w from o) (k :
 -- ---- a name
 
 module _ (w : List ℕ) (from : ℕ) (o : Opening) (a : OpeningAt w from o) (k : o.kind ≡ 0x30) (to : ℕ) (b : Onward w o.next to (name_rest (drop o.next w))) where
-  pub name_puts : {out out' : List ℕ} {at : ℕ} {r : Emitted} → NamePut w o out at r out' → (x : TextPart) (P : List TextPart) (e : Spaces) → PartsCome w from (x ∷ P) e → PutBytes out at (encode (part_commands x)) r out'
+  pub name_puts : {out out' : List ℕ} {at : ℕ} {r : Result ℕ Full} → NamePut w o out at r out' → (x : TextPart) (P : List TextPart) (e : Spaces) → PartsCome w from (x ∷ P) e → PutBytes out at (encode (part_commands x)) r out'
   unfolding part_commands
   name_puts i (item B p q r) P e c =
       absurd (item_kind (opening_of B) (sym (kind_of (a.slot ∙ (item_walked w _ from [] B p q r P e (as_walked w from (item B p q r ∷ P) e c)).slot)) ∙ k))

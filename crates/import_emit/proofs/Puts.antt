@@ -11,8 +11,9 @@ use Rattle.theory.specs.Command.{Command}
 use Rattle.text_decimal.specs.Put.{PutAt}
 use Rattle.text_decimal.proofs.Puts.{then}
 use Rattle.import_model.specs.Encode.{command_bytes, encode}
-use Rattle.import_emit_cases.specs.Emitting.{PutBytes}
-use Rattle.import_emit_cases.specs.declared.Emitted.{Emitted}
+use Rattle.import_emit_cases.specs.Emitting.{is_full, place, PutBytes}
+use Rattle.std.specs.Prelude.{Result, Ok, Err}
+use Rattle.import_emit_cases.specs.declared.Full.{Full}
 
 -- ---- encode
 
@@ -36,20 +37,20 @@ unfolding written
 inside {l} {l'} {b} {at} {n} h p =
     omega (arith, p.behind, ap length p.left, length-append (take at l) (b ++ drop (at + length b) l), length-append b (drop (at + length b) l), length-take-le at l h)
 
-module _ {l l' b : List ℕ} {at : ℕ} {r : Emitted} where
-  pub fits : r.full ≡ false → PutAt l at b r.at l' → PutBytes l at b r l'
+module _ {l l' b : List ℕ} {at : ℕ} {r : Result ℕ Full} where
+  pub fits : is_full r ≡ false → PutAt l at b (place r) l' → PutBytes l at b r l'
   fits f p = record { put = λ _. p; longer = λ e. absurd (let z : ◌≡◌ {A = ℕ} 0 1 = cc in omega arith) }
 
-  pub fits_not : r.full ≡ true → length l < at + length b → PutBytes l at b r l'
+  pub fits_not : is_full r ≡ true → length l < at + length b → PutBytes l at b r l'
   fits_not f h = record { put = λ e. absurd (let z : ◌≡◌ {A = ℕ} 0 1 = cc in omega arith); longer = λ _. h }
 
   pub put_as : {c : List ℕ} → b ≡ c → PutBytes l at b r l' → PutBytes l at c r l'
   put_as e p = subst (λ (x : List ℕ). PutBytes l at x r l') e p
 
   -- more behind what does not fit
-  pub full_before : (c : List ℕ) → r.full ≡ true → PutBytes l at b r l' → PutBytes l at (b ++ c) r l'
+  pub full_before : (c : List ℕ) → is_full r ≡ true → PutBytes l at b r l' → PutBytes l at (b ++ c) r l'
   full_before c f p = record { put = λ e. absurd (let z : ◌≡◌ {A = ℕ} 0 1 = cc in omega arith); longer = λ _. let g = p.longer f in omega (arith, g, length-append b c) }
 
 -- bytes behind bytes that fit
-pub behind : {l l₁ l₂ b c : List ℕ} {at n : ℕ} {r : Emitted} → at ≤ length l → length l₁ ≡ length l → PutAt l at b n l₁ → PutBytes l₁ n c r l₂ → PutBytes l at (b ++ c) r l₂
+pub behind : {l l₁ l₂ b c : List ℕ} {at n : ℕ} {r : Result ℕ Full} → at ≤ length l → length l₁ ≡ length l → PutAt l at b n l₁ → PutBytes l₁ n c r l₂ → PutBytes l at (b ++ c) r l₂
 behind {b = b} {c = c} h s p q = record { put = λ f. then h p (q.put f); longer = λ f. let g = q.longer f in omega (arith, g, s, p.behind, length-append b c) }

@@ -1,5 +1,5 @@
 -- What is written of the items of a text, and of all of it: for each reading without a number beyond, the bytes of its commands, or that they are longer than the room.
-use Rattle.std.specs.Prelude.{◌≡◌, false, List, [], ◌∷◌, ◌++◌, ℕ, ◌≤◌, ◌<◌, length, drop, get_or}
+use Rattle.std.specs.Prelude.{Result, ◌≡◌, false, List, [], ◌∷◌, ◌++◌, ℕ, ◌≤◌, ◌<◌, length, drop, get_or}
 use Rattle.theory.specs.Widths.{name_bytes}
 use Rattle.theory.specs.Command.{Command, give, name_action, end_model}
 use Rattle.import_grammar.specs.Grammar.{Spaces, Text, text_bytes}
@@ -16,12 +16,12 @@ use Rattle.import_walk.specs.declared.opening.Opening.{Opening}
 use Rattle.import_walk.specs.Answers.{slot_said}
 use Rattle.import_list.specs.Packed.{list_most}
 use Rattle.import_emit_cases.specs.Emitting.{PutBytes, CasesBegin}
-use Rattle.import_emit_cases.specs.declared.Emitted.{Emitted}
+use Rattle.import_emit_cases.specs.declared.Full.{Full}
 use Rattle.import_emit.specs.declared.items.Passed.{Passed}
 
 -- ---- one command behind what is written
 
-pub record CommandPut (out : List ℕ) (at : ℕ) (c : Command) (r : Emitted) (out' : List ℕ) : Type 0 where
+pub record CommandPut (out : List ℕ) (at : ℕ) (c : Command) (r : Result ℕ Full) (out' : List ℕ) : Type 0 where
   pub same : length out' ≡ length out
   pub put : PutBytes out at (command_bytes c) r out'
 
@@ -36,7 +36,7 @@ pub record NameSpelt (w : List ℕ) (from : ℕ) (b : List ℕ) : Type 0 where
   pub each : (j : ℕ) → j < name_bytes → name_byte j (drop from w) ≡ get_or b j 0
 
 -- the name whose string begins behind its opening
-pub record NamePut (w : List ℕ) (o : Opening) (out : List ℕ) (at : ℕ) (r : Emitted) (out' : List ℕ) : Type 0 where
+pub record NamePut (w : List ℕ) (o : Opening) (out : List ℕ) (at : ℕ) (r : Result ℕ Full) (out' : List ℕ) : Type 0 where
   pub same : length out' ≡ length out
   pub put : (b : List ℕ) → NameSpelt w o.next b → PutBytes out at (command_bytes (name_action o.action b)) r out'
 
@@ -48,7 +48,7 @@ pub record ItemAt (w : List ℕ) (o : Opening) (l out : List ℕ) (at : ℕ) : T
   pub begins : CasesBegin w o.next l out at
 
 -- its cases, then what they are given as
-pub record ItemPut (w : List ℕ) (o : Opening) (out : List ℕ) (at : ℕ) (r : Emitted) (out' : List ℕ) : Type 0 where
+pub record ItemPut (w : List ℕ) (o : Opening) (out : List ℕ) (at : ℕ) (r : Result ℕ Full) (out' : List ℕ) : Type 0 where
   pub same : length out' ≡ length out
   pub commands : (C : List Command) → Emits (go (drop o.next w) false []) C → PutBytes out at (encode (C ++ (give (slot_said o) ∷ []))) r out'
 
@@ -89,7 +89,7 @@ pub record PartsAt (w : List ℕ) (from : ℕ) (l out : List ℕ) (at : ℕ) : T
   pub comes : PartsCome w from parts spaces
 
 -- the commands of all of them, and the last
-pub record PartsPut (w : List ℕ) (from : ℕ) (out : List ℕ) (at : ℕ) (r : Emitted) (out' : List ℕ) : Type 0 where
+pub record PartsPut (w : List ℕ) (from : ℕ) (out : List ℕ) (at : ℕ) (r : Result ℕ Full) (out' : List ℕ) : Type 0 where
   pub same : length out' ≡ length out
   pub put : (P : List TextPart) (e : Spaces) → PartsCome w from P e → PutBytes out at (encode (parts_commands P ++ (end_model ∷ []))) r out'
 
@@ -109,6 +109,6 @@ pub record SitePut (w out : List ℕ) (r : Passed) (out' : List ℕ) : Type 0 wh
   pub on : (t : ReadingWithin w) → PartsCome w r.next (text_parts t.text) (text_end t.text)
 
 -- "an import of whole models": the model that the text becomes
-pub record ModelPut (w out : List ℕ) (r : Emitted) (out' : List ℕ) : Type 0 where
+pub record ModelPut (w out : List ℕ) (r : Result ℕ Full) (out' : List ℕ) : Type 0 where
   pub same : length out' ≡ length out
   pub put : (t : ReadingWithin w) → PutBytes out 0 (model_bytes t.text) r out'

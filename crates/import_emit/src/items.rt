@@ -6,7 +6,7 @@ ghost use Rattle.import_write.specs.Writes.{given_of};
 ghost use Rattle.import_walk.specs.Answers.{slot_said};
 ghost use Rattle.import_emit.specs.Items.{CommandPut, Opened, NameSpelt, NamePut, ItemAt, ItemPut, PartAt, PartPut};
 
-use import_emit_cases::{Emitted, emit_cases};
+use import_emit_cases::{Full, emit_cases};
 use import_walk::name::{end_of_name, name_byte};
 use import_walk::opening::{END, NAME, Opening, REWARD, opening_at};
 use import_walk::steps::end_of_item;
@@ -20,7 +20,7 @@ const NAMED: usize = 3 + NAME_BYTES;
 #[derive(Clone, Copy)]
 pub struct Passed {
     pub next: usize,
-    pub wrote: Emitted,
+    pub wrote: Result<usize, Full>,
 }
 
 fn slot_len(kind: u8) -> usize
@@ -35,30 +35,28 @@ fn slot_len(kind: u8) -> usize
     4
 }
 
-fn put_slot(out: &mut [u8], at: usize, o: Opening) -> Emitted
+fn put_slot(out: &mut [u8], at: usize, o: Opening) -> Result<usize, Full>
     requires { Opened o out.old at }
     ensures { CommandPut out.old at (give (slot_said o)) result out.new }
 {
-    let n = slot_len(o.kind);
-    if out.len() - at < n {
-        return Emitted { at, full: true };
+    if out.len() - at < slot_len(o.kind) {
+        return Err(Full);
     }
-    let behind = put_given(out, at, o.kind, o.action as u16, o.index);
-    Emitted {
-        at: behind,
-        full: false,
-    }
+    Ok(put_given(out, at, o.kind, o.action as u16, o.index))
 }
 
-fn put_item(text: &[u8], o: Opening, list: &mut [u64], out: &mut [u8], at: usize) -> Emitted
+fn put_item(
+    text: &[u8],
+    o: Opening,
+    list: &mut [u64],
+    out: &mut [u8],
+    at: usize,
+) -> Result<usize, Full>
     requires { ItemAt text.now o list.old out.old at }
     ensures { ItemPut text.now o out.old at result out.new }
 {
-    let e = emit_cases(text, o.next, list, out, at);
-    if e.full {
-        return e;
-    }
-    put_slot(out, e.at, o)
+    let behind = emit_cases(text, o.next, list, out, at)?;
+    put_slot(out, behind, o)
 }
 
 fn spell(text: &[u8], from: usize) -> [u8; NAME_BYTES]
@@ -66,28 +64,21 @@ fn spell(text: &[u8], from: usize) -> [u8; NAME_BYTES]
     ensures { NameSpelt text.now from result }
 {
     let mut name = [0u8; NAME_BYTES];
-    let mut j: usize = 0;
-    while j < NAME_BYTES {
-        let k = name_byte(text, from, j);
-        name[j] = k;
-        j += 1;
+    for j in 0..NAME_BYTES {
+        name[j] = name_byte(text, from, j);
     }
     name
 }
 
-fn put_named(text: &[u8], o: Opening, out: &mut [u8], at: usize) -> Emitted
+fn put_named(text: &[u8], o: Opening, out: &mut [u8], at: usize) -> Result<usize, Full>
     requires { Opened o out.old at × (o.next ≤ length text.now) }
     ensures { NamePut text.now o out.old at result out.new }
 {
     if out.len() - at < NAMED {
-        return Emitted { at, full: true };
+        return Err(Full);
     }
     let name = spell(text, o.next);
-    let behind = put_name(out, at, o.action as u16, &name);
-    Emitted {
-        at: behind,
-        full: false,
-    }
+    Ok(put_name(out, at, o.action as u16, &name))
 }
 
 pub fn put_part(text: &[u8], from: usize, list: &mut [u64], out: &mut [u8], at: usize) -> Passed

@@ -7,7 +7,7 @@ ghost use Rattle.import_list.specs.Packed.{list_most};
 ghost use Rattle.import_emit.specs.Items.{CommandPut, PartsAt, PartsPut, ReadingWithin, SitePut, ModelPut};
 
 use import_descend::ENTRIES;
-use import_emit_cases::Emitted;
+use import_emit_cases::Full;
 use import_walk::site::header_at;
 use import_write::{put_end, put_site};
 use items::{Passed, put_part};
@@ -22,13 +22,12 @@ fn write_site(text: &[u8], out: &mut [u8]) -> Passed
 {
     let s = header_at(text, 0);
     if out.len() < SITE {
-        let wrote = Emitted { at: 0, full: true };
         return Passed {
             next: s.next,
-            wrote,
+            wrote: Err(Full),
         };
     }
-    let n = put_site(
+    let behind = put_site(
         out,
         0,
         s.levels as u8,
@@ -36,57 +35,55 @@ fn write_site(text: &[u8], out: &mut [u8]) -> Passed
         s.actions as u16,
         s.weights as u8,
     );
-    let wrote = Emitted { at: n, full: false };
     Passed {
         next: s.next,
-        wrote,
+        wrote: Ok(behind),
     }
 }
 
-fn write_end(out: &mut [u8], at: usize) -> Emitted
+fn write_end(out: &mut [u8], at: usize) -> Result<usize, Full>
     requires { at ≤ length out.old }
     ensures { CommandPut out.old at end_model result out.new }
 {
     if at == out.len() {
-        return Emitted { at, full: true };
+        return Err(Full);
     }
-    let n = put_end(out, at);
-    Emitted { at: n, full: false }
+    Ok(put_end(out, at))
 }
 
 // The items from an offset on, and the end.
-fn write_parts(text: &[u8], from: usize, list: &mut [u64], out: &mut [u8], start: usize) -> Emitted
+fn write_parts(
+    text: &[u8],
+    from: usize,
+    list: &mut [u64],
+    out: &mut [u8],
+    start: usize,
+) -> Result<usize, Full>
     requires { PartsAt text.now from list.old out.old start }
     ensures { PartsPut text.now from out.old start result out.new }
 {
     let mut i = from;
     let mut at = start;
+    // No `for`: the place leaps to where the next item begins.
     while i < text.len() {
         let p = put_part(text, i, list, out, at);
-        let e = p.wrote;
-        if e.full {
-            return e;
-        }
+        at = p.wrote?;
         i = p.next;
-        at = e.at;
     }
     write_end(out, at)
 }
 
-fn write_text(text: &[u8], list: &mut [u64], out: &mut [u8]) -> Emitted
+fn write_text(text: &[u8], list: &mut [u64], out: &mut [u8]) -> Result<usize, Full>
     requires { ReadingWithin text.now × (length list.old ≡ list_most) }
     ensures { ModelPut text.now out.old result out.new }
 {
     let s = write_site(text, out);
-    let e = s.wrote;
-    if e.full {
-        return e;
-    }
-    write_parts(text, s.next, list, out, e.at)
+    let at = s.wrote?;
+    write_parts(text, s.next, list, out, at)
 }
 
 // The model at the start of the scratch bytes, and its length; or that it is longer than they are.
-pub fn emit(text: &[u8], scratch: &mut [u8]) -> Emitted
+pub fn emit(text: &[u8], scratch: &mut [u8]) -> Result<usize, Full>
     requires { ReadingWithin text.now }
     ensures { ModelPut text.now scratch.old result scratch.new }
 {

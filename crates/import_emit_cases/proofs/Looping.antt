@@ -19,7 +19,8 @@ use Rattle.import_list.specs.Packed.{entries}
 use Rattle.import_list.proofs.laws.Steps.{first_visit, all_written}
 use Rattle.import_write.proofs.Laws.{next_command}
 use Rattle.import_descend.specs.Walks.{SpotComes}
-use Rattle.import_emit_cases.specs.declared.Emitted.{Emitted}
+use Rattle.std.specs.Prelude.{Result, Ok, Err}
+use Rattle.import_emit_cases.specs.declared.Full.{Full}
 use Rattle.import_emit_cases.specs.declared.Wrote.{Wrote}
 use Rattle.import_emit_cases.specs.Emitting.{Lent, WritesCommand, Finishes, CasesBegin, Emitting}
 
@@ -68,7 +69,7 @@ module _ (w l₀ : List ℕ) (n₀ : ℕ) (out₀ : List ℕ) (at₀ : ℕ) (L :
         let d = K.same in
         record { short = L.short; long = b ∙ L.long; few = omega (arith, a, b); room = omega (arith, c, d); commands = f.others; to = f.pending }
 
-    pub ended : n ≤ 0 → Finishes out₀ at₀ (Pending w (entries l₀ n₀)) (record { at = at; full = false }) out
+    pub ended : n ≤ 0 → Finishes out₀ at₀ (Pending w (entries l₀ n₀)) (Ok at) out
     unfolding entries
     ended h C P =
         let f = K.so_far C P in
@@ -77,9 +78,9 @@ module _ (w l₀ : List ℕ) (n₀ : ℕ) (out₀ : List ℕ) (at₀ : ℕ) (L :
         let g : C ≡ f.written = f.is ∙ (ap (λ (D : List Command). f.written ++ D) e ∙ append-nil f.written) in
         record { put = λ q. rename (ap encode (sym g)) f.put; longer = λ q. clash (sym q) }
 
-    module _ (r : Wrote) (l' out' : List ℕ) (W : WritesCommand w l out at (Pending w (entries l n)) r l' out') where
-      pub on : r.full ≡ false → length l' ≡ length l → length out' ≡ length out → Written w l₀ n₀ out₀ at₀ l' r.count out' r.at
-      on q a b =
+    module _ (r : Wrote) (l' out' : List ℕ) (W : WritesCommand w l out at (Pending w (entries l n)) (Ok r) l' out') where
+      pub on : length l' ≡ length l → length out' ≡ length out → Written w l₀ n₀ out₀ at₀ l' r.count out' r.at
+      on a b =
           record {
             same = b ∙ K.same;
             listed = a ∙ K.listed;
@@ -92,20 +93,21 @@ module _ (w l₀ : List ℕ) (n₀ : ℕ) (out₀ : List ℕ) (at₀ : ℕ) (L :
                   written = f.written ++ (g.command ∷ []);
                   others = g.others;
                   is = f.is ∙ (ap (λ (D : List Command). f.written ++ D) g.is ∙ sym (append_assoc f.written (g.command ∷ []) g.others));
-                  pending = g.pending;
-                  put = next_command f.written g.command L.room f.put (g.written.put q);
+                  pending = g.pending refl;
+                  put = next_command f.written g.command L.room f.put (g.written.put refl);
                 };
           }
 
-      pub stops : r.full ≡ true → Finishes out₀ at₀ (Pending w (entries l₀ n₀)) (record { at = r.at; full = true }) out'
-      stops q C P =
+    module _ (b : Full) (l' out' : List ℕ) (W : WritesCommand w l out at (Pending w (entries l n)) (Err b) l' out') where
+      pub stops : Finishes out₀ at₀ (Pending w (entries l₀ n₀)) (Err b) out'
+      stops C P =
           let f = K.so_far C P in
           let g = W.advances f.others f.pending in
-          let a = g.written.longer q in
-          let b = f.put.behind in
+          let a = g.written.longer refl in
+          let h = f.put.behind in
           let c = longer_all f.written g.command g.others C (f.is ∙ ap (λ (D : List Command). f.written ++ D) g.is) in
           let k = K.same in
-          record { put = λ z. clash z; longer = λ z. omega (arith, a, b, c, k) }
+          record { put = λ z. clash z; longer = λ z. omega (arith, a, h, c, k) }
 
 -- ---- from the first place on
 
@@ -121,41 +123,41 @@ module _ (w : List ℕ) (from : ℕ) (l out : List ℕ) (at : ℕ) (B : CasesBeg
   pub first_lent : Lent w l 0 out at (SpotComes w s l 0)
   first_lent = record { short = B.short; long = B.long; few = omega arith; room = B.room; commands = B.commands; to = first B.commands B.emits }
 
-  module _ (r : Wrote) (l₁ out₁ : List ℕ) (W : WritesCommand w l out at (SpotComes w s l 0) r l₁ out₁) (m : length out₁ ≡ length out) where
-    pub first_full : r.full ≡ true → Emitting w from out at (record { at = r.at; full = true }) out₁
+  module _ (b : Full) (l₁ out₁ : List ℕ) (W : WritesCommand w l out at (SpotComes w s l 0) (Err b) l₁ out₁) (m : length out₁ ≡ length out) where
+    pub first_full : Emitting w from out at (Err b) out₁
     unfolding encode
-    first_full q =
+    first_full =
         record {
           same = m;
           commands = λ C E.
               let g = W.advances C (first C E) in
-              let a = g.written.longer q in
+              let a = g.written.longer refl in
               let c = longer_all [] g.command g.others C g.is in
               record { put = λ z. clash z; longer = λ z. omega (arith, a, c) };
         }
 
-    module _ (q : r.full ≡ false) where
-      pub rest_lent : length l₁ ≡ length l → Lent w l₁ r.count out₁ r.at (Pending w (entries l₁ r.count))
-      rest_lent k =
-          let g = W.advances B.commands (first B.commands B.emits) in
-          let a = W.few in
-          let b = W.within in
-          record { short = B.short; long = k ∙ B.long; few = omega (arith, a, k); room = omega (arith, b, m); commands = g.others; to = g.pending }
+  module _ (r : Wrote) (l₁ out₁ : List ℕ) (W : WritesCommand w l out at (SpotComes w s l 0) (Ok r) l₁ out₁) (m : length out₁ ≡ length out) where
+    pub rest_lent : length l₁ ≡ length l → Lent w l₁ r.count out₁ r.at (Pending w (entries l₁ r.count))
+    rest_lent k =
+        let g = W.advances B.commands (first B.commands B.emits) in
+        let a = W.few in
+        let b = W.within in
+        record { short = B.short; long = k ∙ B.long; few = omega (arith, a, k); room = omega (arith, b, m); commands = g.others; to = g.pending refl }
 
-      pub then_rest : (f : Emitted) (out' : List ℕ) → length out' ≡ length out₁ → Finishes out₁ r.at (Pending w (entries l₁ r.count)) f out' → Emitting w from out at f out'
-      unfolding encode
-      then_rest f out' k F =
-          record {
-            same = k ∙ m;
-            commands = λ C E.
-                let g = W.advances C (first C E) in
-                let p = g.written.put q in
-                let h = F g.others g.pending in
-                let b = p.behind in
-                let j = length-append (command_bytes g.command) (encode g.others) in
-                let i = ap (λ (X : List Command). length (encode X)) g.is in
-                record {
-                  put = λ z. rename (ap encode (sym g.is)) (then B.room p (h.put z));
-                  longer = λ z. let a = h.longer z in omega (arith, a, b, j, i, m);
-                };
-          }
+    pub then_rest : (f : Result ℕ Full) (out' : List ℕ) → length out' ≡ length out₁ → Finishes out₁ r.at (Pending w (entries l₁ r.count)) f out' → Emitting w from out at f out'
+    unfolding encode
+    then_rest f out' k F =
+        record {
+          same = k ∙ m;
+          commands = λ C E.
+              let g = W.advances C (first C E) in
+              let p = g.written.put refl in
+              let h = F g.others (g.pending refl) in
+              let b = p.behind in
+              let j = length-append (command_bytes g.command) (encode g.others) in
+              let i = ap (λ (X : List Command). length (encode X)) g.is in
+              record {
+                put = λ z. rename (ap encode (sym g.is)) (then B.room p (h.put z));
+                longer = λ z. let a = h.longer z in omega (arith, a, b, j, i, m);
+              };
+        }

@@ -16,11 +16,12 @@ use Rattle.import_write.specs.Writes.{leaf_of, test_of}
 use Rattle.import_write.proofs.Laws.{leaf_length, test_length}
 use Rattle.import_look.specs.declared.Told.{Told}
 use Rattle.import_look.specs.Looks.{command_told}
-use Rattle.import_emit_cases.specs.declared.Emitted.{Emitted}
+use Rattle.std.specs.Prelude.{Result, Ok, Err}
+use Rattle.import_emit_cases.specs.declared.Full.{Full}
 use Rattle.import_emit_cases.specs.Emitting.{Puts}
 
 module _ (out : List ℕ) (at k : ℕ) (c : Command) (e : length (command_bytes c) ≡ k) where
-  pub put_one : (n : ℕ) (out' : List ℕ) → 0 < k → at + k ≤ length out → PutAt out at (command_bytes c) n out' → Puts out at c (record { at = n; full = false }) out'
+  pub put_one : (n : ℕ) (out' : List ℕ) → 0 < k → at + k ≤ length out → PutAt out at (command_bytes c) n out' → Puts out at c (Ok n) out'
   put_one n out' z h p =
       let b = p.behind in
       record {
@@ -29,8 +30,8 @@ module _ (out : List ℕ) (at k : ℕ) (c : Command) (e : length (command_bytes 
         written = record { put = λ q. p; longer = λ q. clash (sym q) };
       }
 
-  pub no_room : at ≤ length out → length out < at + k → Puts out at c (record { at = at; full = true }) out
-  no_room h m = record { within = h; grows = λ q. clash q; written = record { put = λ q. clash q; longer = λ q. omega (arith, e, m) } }
+  pub no_room : at ≤ length out → length out < at + k → (f : Full) → Puts out at c (Err f) out
+  no_room h m f = record { within = omega arith; grows = λ q. clash q; written = record { put = λ q. clash q; longer = λ q. omega (arith, e, m) } }
 
 -- ---- a linear as a leaf or as a test
 
@@ -65,5 +66,5 @@ module _ (t : Told) where
       unfolding command_told
       told_forbidden r = simp (ne_eqb t.kind 0x10 p, ne_eqb t.kind 0x11 q, ne_eqb t.kind 0x12 r)
 
-pub as_told : {out : List ℕ} {at : ℕ} {c d : Command} {r : Emitted} {out' : List ℕ} → c ≡ d → Puts out at d r out' → Puts out at c r out'
+pub as_told : {out : List ℕ} {at : ℕ} {c d : Command} {r : Result ℕ Full} {out' : List ℕ} → c ≡ d → Puts out at d r out' → Puts out at c r out'
 as_told {out} {at} {r = r} {out' = out'} e p = subst (λ (c : Command). Puts out at c r out') (sym e) p

@@ -6,7 +6,7 @@ use Prim.Native.Nat.{ℕ, zero, suc, ◌-◌, ◌<◌}
 use native.Mathlib.Omega.{arith}
 use lib.Dec.{T}
 use lib.ListN.{get_or}
-use Rattle.whole.specs.Cases.{from_true}
+use Rattle.whole.specs.Cases.{clash, from_true}
 use Rattle.theory.specs.Command.{Command}
 use Rattle.import_numbers.specs.Numbers.{all_within}
 use Rattle.import_model.specs.Encode.{command_bytes}
@@ -23,12 +23,17 @@ use Rattle.import_look.specs.Looks.{command_told, Looks, LeafLooks}
 use Rattle.import_descend.specs.declared.Down.{Down}
 use Rattle.import_descend.specs.Walks.{SpotComes, Starting, Descends}
 use Rattle.import_descend.proofs.Entering.{spotted_in}
-use Rattle.import_emit_cases.specs.declared.Emitted.{Emitted}
+use Rattle.std.specs.Prelude.{Result, Ok, Err}
+use Rattle.import_emit_cases.specs.declared.Full.{Full}
 use Rattle.import_emit_cases.specs.declared.Wrote.{Wrote}
 use Rattle.import_emit_cases.specs.Emitting.{PutBytes, Puts, Lent, WritesCommand}
 
-as_command : {out : List ℕ} {at : ℕ} {c d : Command} {r : Emitted} {out' : List ℕ} → c ≡ d → PutBytes out at (command_bytes c) r out' → PutBytes out at (command_bytes d) r out'
+as_command : {out : List ℕ} {at : ℕ} {c d : Command} {r : Result ℕ Full} {out' : List ℕ} → c ≡ d → PutBytes out at (command_bytes c) r out' → PutBytes out at (command_bytes d) r out'
 as_command {out} {at} {r = r} {out' = out'} e p = subst (λ (c : Command). PutBytes out at (command_bytes c) r out') e p
+
+abbrev with_count : ℕ → Result ℕ Full → Result Wrote Full
+with_count k (Ok a) = Ok (record { count = k; at = a })
+with_count k (Err e) = Err e
 
 -- ---- down to a result
 
@@ -40,15 +45,24 @@ module _ (w : List ℕ) (s : Spot) (l : List ℕ) (n : ℕ) (out : List ℕ) (at
     pub leaf_fits : T (all_within t.linear)
     leaf_fits = let f = D.first L.commands L.to in from_true (K f.reading).fits
 
-    pub leaf_writes : (e : Emitted) (out' : List ℕ) → Puts out at (command_told t) e out' → WritesCommand w l out at (SpotComes w s l n) (record { count = d.count; at = e.at; full = e.full }) l' out'
-    leaf_writes e out' P =
+    pub leaf_writes : (e : Result ℕ Full) (out' : List ℕ) → Puts out at (command_told t) e out' → WritesCommand w l out at (SpotComes w s l n) (with_count d.count e) l' out'
+    leaf_writes (Ok a) out' P =
         record {
           few = D.few;
           within = P.within;
           grows = P.grows;
           advances = λ C G.
               let f = D.first C G in
-              record { command = result_command f.reading.result; others = f.others; is = f.is; pending = f.pending; written = as_command (K f.reading).own_is P.written };
+              record { command = result_command f.reading.result; others = f.others; is = f.is; pending = λ q. f.pending; written = as_command (K f.reading).own_is P.written };
+        }
+    leaf_writes (Err b) out' P =
+        record {
+          few = omega arith;
+          within = P.within;
+          grows = P.grows;
+          advances = λ C G.
+              let f = D.first C G in
+              record { command = result_command f.reading.result; others = f.others; is = f.is; pending = λ q. clash q; written = as_command (K f.reading).own_is P.written };
         }
 
 -- ---- the latest entry
@@ -80,15 +94,24 @@ module _ (w l : List ℕ) (n : ℕ) (out : List ℕ) (at : ℕ) (e : Entry) (z :
       pub own_fits : T (all_within t.linear)
       own_fits = let q = write_own (on_top L.to) b in from_true (K q.reading).fits
 
-      pub own_writes : (p : Emitted) (out' : List ℕ) → Puts out at (command_told t) p out' → WritesCommand w l out at (Pending w (entries l n)) (record { count = n - 1; at = p.at; full = p.full }) l out'
-      own_writes p out' P =
+      pub own_writes : (p : Result ℕ Full) (out' : List ℕ) → Puts out at (command_told t) p out' → WritesCommand w l out at (Pending w (entries l n)) (with_count (n - 1) p) l out'
+      own_writes (Ok a) out' P =
           record {
             few = let f = L.few in omega (arith, f);
             within = P.within;
             grows = P.grows;
             advances = λ C G.
                 let q = write_own (on_top G) b in
-                record { command = own q.reading.atom; others = q.others; is = q.is; pending = q.pending; written = as_command (K q.reading).own_is P.written };
+                record { command = own q.reading.atom; others = q.others; is = q.is; pending = λ z. q.pending; written = as_command (K q.reading).own_is P.written };
+          }
+      own_writes (Err a) out' P =
+          record {
+            few = omega arith;
+            within = P.within;
+            grows = P.grows;
+            advances = λ C G.
+                let q = write_own (on_top G) b in
+                record { command = own q.reading.atom; others = q.others; is = q.is; pending = λ z. clash z; written = as_command (K q.reading).own_is P.written };
           }
 
     -- the entry waits for its own command, and its second outcome is visited
@@ -108,6 +131,6 @@ module _ (w l : List ℕ) (n : ℕ) (out : List ℕ) (at : ℕ) (e : Entry) (z :
       pub second_lent : Lent w l₁ n out at (SpotComes w s l₁ n)
       second_lent = record { short = L.short; long = P.room ∙ L.long; few = let f = L.few in let r = P.room in omega (arith, f, r); room = L.room; commands = L.commands; to = second L.commands L.to }
 
-      pub second_writes : (r : Wrote) (l' out' : List ℕ) → WritesCommand w l₁ out at (SpotComes w s l₁ n) r l' out' → WritesCommand w l out at (Pending w (entries l n)) r l' out'
+      pub second_writes : (r : Result Wrote Full) (l' out' : List ℕ) → WritesCommand w l₁ out at (SpotComes w s l₁ n) r l' out' → WritesCommand w l out at (Pending w (entries l n)) r l' out'
       second_writes r l' out' W =
           record { few = let f = W.few in let q = P.room in omega (arith, f, q); within = W.within; grows = W.grows; advances = λ C G. W.advances C (second C G) }

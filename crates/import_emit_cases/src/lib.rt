@@ -24,74 +24,65 @@ const LINEAR_BYTES: usize = 37;
 
 const CONDITION_BYTES: usize = 2;
 
-// The place behind what is written, or that the next command does not fit.
-#[derive(Clone, Copy)]
-pub struct Emitted {
-    pub at: usize,
-    pub full: bool,
-}
+// The next command does not fit.
+#[derive(Clone, Copy, PartialEq, Eq)]
+pub struct Full;
 
-// The same, and how many entries are on the list.
+// How many entries are on the list, and the place behind what is written.
 #[derive(Clone, Copy)]
 pub struct Wrote {
     pub count: usize,
     pub at: usize,
-    pub full: bool,
 }
 
 // 12 or 10.
-fn put_linear(out: &mut [u8], at: usize, a: [i64; NUMBERS], test: bool) -> Emitted
+fn put_linear(out: &mut [u8], at: usize, a: [i64; NUMBERS], test: bool) -> Result<usize, Full>
     requires { T (all_within a) × (at ≤ length out.old) }
     ensures { Puts out.old at (if test (test_of a) (leaf_of a)) result out.new }
 {
     if out.len() - at < LINEAR_BYTES {
-        return Emitted { at, full: true };
+        return Err(Full);
     }
     if test {
-        let n = put_test(out, at, a);
-        return Emitted { at: n, full: false };
+        return Ok(put_test(out, at, a));
     }
-    let n = put_leaf(out, at, a);
-    Emitted { at: n, full: false }
+    Ok(put_leaf(out, at, a))
 }
 
 // 11.
-fn put_asking(out: &mut [u8], at: usize, condition: u8) -> Emitted
+fn put_asking(out: &mut [u8], at: usize, condition: u8) -> Result<usize, Full>
     requires { at ≤ length out.old }
     ensures { Puts out.old at (push_condition condition) result out.new }
 {
     if out.len() - at < CONDITION_BYTES {
-        return Emitted { at, full: true };
+        return Err(Full);
     }
-    let n = put_condition(out, at, condition);
-    Emitted { at: n, full: false }
+    Ok(put_condition(out, at, condition))
 }
 
 // 13.
-fn put_barring(out: &mut [u8], at: usize) -> Emitted
+fn put_barring(out: &mut [u8], at: usize) -> Result<usize, Full>
     requires { at ≤ length out.old }
     ensures { Puts out.old at push_forbidden result out.new }
 {
     if out.len() <= at {
-        return Emitted { at, full: true };
+        return Err(Full);
     }
-    let n = put_forbidden(out, at);
-    Emitted { at: n, full: false }
+    Ok(put_forbidden(out, at))
 }
 
-fn put_told(out: &mut [u8], at: usize, t: Told) -> Emitted
+fn put_told(out: &mut [u8], at: usize, t: Told) -> Result<usize, Full>
     requires { T (all_within t.linear) × (at ≤ length out.old) }
     ensures { Puts out.old at (command_told t) result out.new }
 {
-    let a = t.linear;
     if t.kind == 0x10 {
-        return put_linear(out, at, a, false);
+        return put_linear(out, at, t.linear, false);
     }
     if t.kind == 0x11 {
         return put_asking(out, at, t.condition);
     }
     if t.kind == 0x12 {
-        return put_linear(out, at, a, true);
+        return put_linear(out, at, t.linear, true);
     }
     put_barring(out, at)
 }
@@ -104,81 +95,73 @@ fn write_leaf(
     n: usize,
     out: &mut [u8],
     at: usize,
-) -> Wrote
+) -> Result<Wrote, Full>
     requires { Lent text.now list.old n out.old at (SpotComes text.now spot list.old n) }
     ensures { WritesCommand text.now list.old out.old at (SpotComes text.now spot list.old n) result list.new out.new }
 {
     let d = descend(text, spot, list, n);
     let t = leaf(text, d.at);
-    let e = put_told(out, at, t);
-    Wrote {
+    let behind = put_told(out, at, t)?;
+    Ok(Wrote {
         count: d.count,
-        at: e.at,
-        full: e.full,
-    }
+        at: behind,
+    })
 }
 
 // One command: the latest entry's own, or the first of its second outcome.
-fn step(text: &[u8], list: &mut [u64], n: usize, out: &mut [u8], at: usize) -> Wrote
+fn step(text: &[u8], list: &mut [u64], n: usize, out: &mut [u8], at: usize) -> Result<Wrote, Full>
     requires { (0 < n) × Lent text.now list.old n out.old at (Pending text.now (entries list.old n)) }
     ensures { WritesCommand text.now list.old out.old at (Pending text.now (entries list.old n)) result list.new out.new }
 {
     let e = top(list, n);
     let t = look(text, e.at);
     if e.both {
-        let p = put_told(out, at, t);
-        return Wrote {
+        let behind = put_told(out, at, t)?;
+        return Ok(Wrote {
             count: n - 1,
-            at: p.at,
-            full: p.full,
-        };
+            at: behind,
+        });
     }
-    let marked = Entry {
-        at: e.at,
-        sign: e.sign,
-        mask: e.mask,
-        count: e.count,
-        both: true,
-    };
-    push(list, n - 1, marked);
+    push(list, n - 1, Entry { both: true, ..e });
     let v = first_value(t.first, e.sign);
     let s = decided(text, e.at, !v, e.mask, e.count);
     write_leaf(text, s, list, n, out, at)
 }
 
 // The commands that so many entries of the list stand for.
-fn finish(text: &[u8], list: &mut [u64], count: usize, out: &mut [u8], at: usize) -> Emitted
+fn finish(
+    text: &[u8],
+    list: &mut [u64],
+    count: usize,
+    out: &mut [u8],
+    at: usize,
+) -> Result<usize, Full>
     requires { Lent text.now list.old count out.old at (Pending text.now (entries list.old count)) }
     ensures { Finishes out.old at (Pending text.now (entries list.old count)) result out.new }
 {
     let mut n = count;
     let mut i = at;
+    // No `for`: a step takes an entry off the list or puts more on it.
     while n > 0 {
-        let w = step(text, list, n, out, i);
-        if w.full {
-            return Emitted {
-                at: w.at,
-                full: true,
-            };
-        }
+        let w = step(text, list, n, out, i)?;
         n = w.count;
         i = w.at;
     }
-    Emitted { at: i, full: false }
+    Ok(i)
 }
 
 // The commands of the cases that begin at a place; the list has import_descend::ENTRIES words.
-pub fn emit_cases(text: &[u8], from: usize, list: &mut [u64], out: &mut [u8], at: usize) -> Emitted
+pub fn emit_cases(
+    text: &[u8],
+    from: usize,
+    list: &mut [u64],
+    out: &mut [u8],
+    at: usize,
+) -> Result<usize, Full>
     requires { CasesBegin text.now from list.old out.old at }
     ensures { Emitting text.now from out.old at result out.new }
 {
     let s = go(text, from, 0, 0);
-    let w = write_leaf(text, s, list, 0, out, at);
-    if w.full {
-        return Emitted {
-            at: w.at,
-            full: true,
-        };
-    }
+    let w = write_leaf(text, s, list, 0, out, at)?;
     finish(text, list, w.count, out, w.at)
 }

@@ -16,11 +16,10 @@ fn emitted(text: &[u8], scratch: &mut [u8], buffer: &mut [u8]) -> Imported
     requires { SoundText text.now × (length scratch.old ≡ text_most) }
     ensures { outcome_as result buffer.new ≡ import_text text.now buffer.old }
 {
-    let e = emit(text, scratch);
-    if e.full {
+    let Ok(size) = emit(text, scratch) else {
         return refused(SIZES, 0);
-    }
-    deliver(&scratch[..e.at], buffer)
+    };
+    deliver(&scratch[..size], buffer)
 }
 
 // The model that a text stands for, at the start of the buffer.

@@ -45,25 +45,13 @@ pub struct Frame {
 pub fn is_digit(k: u8) -> bool
     ensures { result ≡ f.digit k }
 {
-    if k < 48 {
-        return false;
-    }
-    k <= 57
+    k.is_ascii_digit()
 }
 
 pub fn is_blank(k: u8) -> bool
     ensures { result ≡ f.blank k }
 {
-    if k == 32 {
-        return true;
-    }
-    if k == 9 {
-        return true;
-    }
-    if k == 10 {
-        return true;
-    }
-    k == 13
+    matches!(k, b' ' | b'\t' | b'\n' | b'\r')
 }
 
 fn made(
@@ -93,8 +81,8 @@ fn made(
 pub fn idle(mode: u8) -> Frame
     ensures { result ≡ f.idle mode }
 {
-    let zero = [0i64; NUMBERS];
-    made(zero, zero, [0, 0, 0, 0, 0, 0, 0, 0, 1], 0, false, mode, 0)
+    let one = [0, 0, 0, 0, 0, 0, 0, 0, 1];
+    made([0; NUMBERS], [0; NUMBERS], one, 0, false, mode, 0)
 }
 
 // A number was beyond.
@@ -102,14 +90,8 @@ pub fn over() -> Frame
     ensures { result ≡ f.over }
 {
     Frame {
-        left: [0, 0, 0, 0, 0, 0, 0, 0, 0],
-        sum: [0, 0, 0, 0, 0, 0, 0, 0, 0],
-        term: [0, 0, 0, 0, 0, 0, 0, 0, 1],
-        number: 0,
-        minus: false,
-        mode: START,
-        compared: 0,
         beyond: true,
+        ..idle(START)
     }
 }
 
@@ -117,80 +99,47 @@ pub fn over() -> Frame
 fn termed(s: Frame, t: [i64; NUMBERS]) -> Frame
     ensures { result ≡ f.termed s t }
 {
-    let left = s.left;
-    let sum = s.sum;
-    made(left, sum, t, 0, s.minus, WHOLE, s.compared)
+    made(s.left, s.sum, t, 0, s.minus, WHOLE, s.compared)
 }
 
 fn moded(s: Frame, mode: u8) -> Frame
     ensures { result ≡ f.moded s mode }
 {
-    let left = s.left;
-    let sum = s.sum;
-    let term = s.term;
-    made(left, sum, term, 0, s.minus, mode, s.compared)
+    made(s.left, s.sum, s.term, 0, s.minus, mode, s.compared)
 }
 
 fn numbered(s: Frame, n: u64) -> Frame
     ensures { result ≡ f.numbered s n }
 {
-    let left = s.left;
-    let sum = s.sum;
-    let term = s.term;
-    made(left, sum, term, n, s.minus, NUMBER, s.compared)
+    made(s.left, s.sum, s.term, n, s.minus, NUMBER, s.compared)
 }
 
 fn with_comparison(s: Frame, compared: u8) -> Frame
     ensures { result ≡ f.made s.left s.sum s.term 0 s.minus 0 compared }
 {
-    let left = s.left;
-    let sum = s.sum;
-    let term = s.term;
-    made(left, sum, term, 0, s.minus, START, compared)
+    made(s.left, s.sum, s.term, 0, s.minus, START, compared)
 }
 
 // The terms are t, and another begins.
 fn summed(s: Frame, t: [i64; NUMBERS], minus: bool) -> Frame
     ensures { result ≡ f.summed s t minus }
 {
-    let left = s.left;
-    made(
-        left,
-        t,
-        [0, 0, 0, 0, 0, 0, 0, 0, 1],
-        0,
-        minus,
-        START,
-        s.compared,
-    )
+    let one = [0, 0, 0, 0, 0, 0, 0, 0, 1];
+    made(s.left, t, one, 0, minus, START, s.compared)
 }
 
 fn sided(t: [i64; NUMBERS], compared: u8) -> Frame
     ensures { result ≡ f.sided t compared }
 {
-    made(
-        t,
-        [0, 0, 0, 0, 0, 0, 0, 0, 0],
-        [0, 0, 0, 0, 0, 0, 0, 0, 1],
-        0,
-        false,
-        START,
-        compared,
-    )
+    let one = [0, 0, 0, 0, 0, 0, 0, 0, 1];
+    made(t, [0; NUMBERS], one, 0, false, START, compared)
 }
 
 fn valued(t: [i64; NUMBERS]) -> Frame
     ensures { result ≡ f.valued t }
 {
-    made(
-        [0, 0, 0, 0, 0, 0, 0, 0, 0],
-        t,
-        [0, 0, 0, 0, 0, 0, 0, 0, 1],
-        0,
-        false,
-        WHOLE,
-        0,
-    )
+    let one = [0, 0, 0, 0, 0, 0, 0, 0, 1];
+    made([0; NUMBERS], t, one, 0, false, WHOLE, 0)
 }
 
 // A factor more.
@@ -198,8 +147,7 @@ pub fn factor(s: Frame, q: [i64; NUMBERS]) -> Frame
     requires { SoundFrame s × (length q ≡ numbers) }
     ensures { result ≡ f.factor s q }
 {
-    let p = s.term;
-    let y = product(p, q);
+    let y = product(s.term, q);
     if all_fit(y) {
         return termed(s, y);
     }
@@ -207,15 +155,16 @@ pub fn factor(s: Frame, q: [i64; NUMBERS]) -> Frame
 }
 
 // The number is whole.
+#[tactic(auto, unfolding(crate::specs::Frames::closed))]
 pub fn closed(s: Frame) -> Frame
     requires { SoundFrame s }
     ensures { result ≡ f.closed s }
 {
     if s.mode == NUMBER {
-        let q = constant(s.number);
-        return factor(s, q);
+        factor(s, constant(s.number))
+    } else {
+        s
     }
-    s
 }
 
 // The terms with the last.
@@ -223,12 +172,10 @@ pub fn total(s: Frame) -> [i64; NUMBERS]
     requires { SoundFrame s }
     ensures { result ≡ f.total s }
 {
-    let a = s.sum;
-    let b = s.term;
     if s.minus {
-        return sub(a, b);
+        return sub(s.sum, s.term);
     }
-    add(a, b)
+    add(s.sum, s.term)
 }
 
 // + and -. A leading one has nothing before it.
@@ -237,8 +184,7 @@ fn on_sign(s: Frame, minus: bool) -> Frame
     ensures { result ≡ f.on_sign s minus }
 {
     if s.mode == START {
-        let sum = s.sum;
-        return summed(s, sum, minus);
+        return summed(s, s.sum, minus);
     }
     let t = total(s);
     if all_fit(t) {
@@ -260,18 +206,16 @@ fn on_compare(s: Frame, compared: u8) -> Frame
 }
 
 // Right less left for < and >=, else left less right.
+#[tactic(auto, using(crate::proofs::Laws::nine_smalls), unfolding(crate::specs::Frames::less))]
 pub fn less(s: Frame, t: [i64; NUMBERS]) -> [i64; NUMBERS]
     requires { SoundFrame s × Nine t }
     ensures { result ≡ f.less s t }
 {
-    let left = s.left;
-    if s.compared == 1 {
-        return sub(t, left);
+    if s.compared == 1 || s.compared == 4 {
+        sub(t, s.left)
+    } else {
+        sub(s.left, t)
     }
-    if s.compared == 4 {
-        return sub(t, left);
-    }
-    sub(left, t)
 }
 
 // The whole sum t, and a comparison's difference.
@@ -307,18 +251,14 @@ pub fn finished(s: Frame) -> Frame
 fn behind(k: u8) -> u8
     ensures { result ≡ f.behind k }
 {
-    if k == 67 {
-        return CONDITION;
+    match k {
+        b'C' | b'N' => CONDITION,
+        b'"' => NAME,
+        _ => START,
     }
-    if k == 78 {
-        return CONDITION;
-    }
-    if k == 34 {
-        return NAME;
-    }
-    START
 }
 
+#[tactic(auto, unfolding(crate::specs::Frames::on_end))]
 fn on_end(s: Frame, k: u8) -> Frame
     requires { SoundFrame s }
     ensures { result ≡ f.on_end s k }
@@ -331,85 +271,70 @@ fn on_end(s: Frame, k: u8) -> Frame
 }
 
 // = right behind < or >, or another.
+#[tactic(auto, unfolding(crate::specs::Frames::on_equals))]
 fn on_equals(s: Frame) -> Frame
     requires { SoundFrame s }
     ensures { result ≡ f.on_equals s }
 {
-    if s.mode == START {
-        if s.compared == 1 {
-            return with_comparison(s, 2);
-        }
-        if s.compared == 3 {
-            return with_comparison(s, 4);
-        }
-        return on_end(s, 61);
+    match s.compared {
+        1 if s.mode == START => with_comparison(s, 2),
+        3 if s.mode == START => with_comparison(s, 4),
+        _ => on_end(s, b'='),
     }
-    on_end(s, 61)
 }
 
+#[tactic(auto, unfolding(crate::specs::Frames::on_other))]
 fn on_other(s: Frame, k: u8) -> Frame
     requires { SoundFrame s }
     ensures { result ≡ f.on_other s k }
 {
-    if k == 61 {
-        return on_equals(s);
+    match k {
+        b'=' => on_equals(s),
+        b'<' => on_compare(s, 1),
+        b'>' => on_compare(s, 3),
+        _ => on_end(s, k),
     }
-    if k == 60 {
-        return on_compare(s, 1);
-    }
-    if k == 62 {
-        return on_compare(s, 3);
-    }
-    on_end(s, k)
 }
 
+#[tactic(auto, unfolding(crate::specs::Frames::on_mark))]
 fn on_mark(s: Frame, k: u8) -> Frame
     requires { SoundFrame s }
     ensures { result ≡ f.on_mark s k }
 {
-    if is_blank(k) {
-        return s;
+    match k {
+        _ if is_blank(k) => s,
+        b'*' => moded(s, START),
+        b'+' => on_sign(s, false),
+        b'-' => on_sign(s, true),
+        b'L' => moded(s, LEVEL),
+        _ => on_other(s, k),
     }
-    if k == 42 {
-        return moded(s, START);
-    }
-    if k == 43 {
-        return on_sign(s, false);
-    }
-    if k == 45 {
-        return on_sign(s, true);
-    }
-    if k == 76 {
-        return moded(s, LEVEL);
-    }
-    on_other(s, k)
 }
 
 // A number goes on as long as it lies within 32 bits.
+#[tactic(auto, unfolding(crate::specs::Frames::grown))]
 fn grown(s: Frame, n: u64) -> Frame
     ensures { result ≡ f.grown s n }
 {
     if n <= import_linears::MOST {
-        return numbered(s, n);
+        numbered(s, n)
+    } else {
+        over()
     }
-    over()
 }
 
+#[tactic(auto, using(crate::specs::Kept::digit_small, crate::specs::Kept::level_long), unfolding(crate::specs::Frames::on_digit))]
 fn on_digit(s: Frame, k: u8) -> Frame
     requires { SoundFrame s × (f.digit k ≡ true) }
     ensures { result ≡ f.on_digit s k }
 {
-    let d = (k - 48) as u64;
-    if s.mode == NUMBER {
-        return grown(s, s.number * 10 + d);
+    let d = u64::from(k - b'0');
+    match s.mode {
+        NUMBER => grown(s, s.number * 10 + d),
+        LEVEL => factor(s, level(k)),
+        CONDITION => idle(HELD),
+        _ => numbered(s, d),
     }
-    if s.mode == LEVEL {
-        return factor(s, level(k));
-    }
-    if s.mode == CONDITION {
-        return idle(HELD);
-    }
-    numbered(s, d)
 }
 
 // A byte that is no bracket.
@@ -434,15 +359,16 @@ pub fn step(s: Frame, k: u8) -> Frame
 }
 
 // A bracket in o that comes to c.
+#[tactic(auto, unfolding(crate::specs::Frames::entered))]
 fn entered(o: Frame, c: Frame) -> Frame
     requires { SoundFrame o × SoundFrame c }
     ensures { result ≡ f.entered o c }
 {
     if c.mode == HELD {
-        return idle(HELD);
+        idle(HELD)
+    } else {
+        factor(o, c.sum)
     }
-    let q = c.sum;
-    factor(o, q)
 }
 
 // ")": the frame s closes in the frame o.

@@ -2,7 +2,7 @@
 use mathlib.Core.Path.{◌≡◌, refl, sym, ap, ◌∙◌, subst}
 use mathlib.Core.Bool.{Bool, true, false, not}
 use mathlib.Core.List.{List, [], ◌∷◌}
-use Prim.Native.Nat.{ℕ, zero, suc, ◌+◌, ◌-◌, ◌*◌, ◌/◌, ◌%◌, ◌≤◌, ◌<◌}
+use Prim.Native.Nat.{ℕ, zero, suc, ◌+◌, ◌*◌, ◌/◌, ◌%◌, ◌≤◌, ◌<◌}
 use native.Mathlib.Numerals.{add-one}
 use native.Mathlib.Omega.{arith}
 use lib.Dec.{eqb, leb, leb→le, nleb→lt}
@@ -22,8 +22,7 @@ use Rattle.import_going.specs.declared.turning.Turn.{Turn}
 use Rattle.import_going.specs.declared.turning.Turn.TheVariants.{On, Atom, Else, Deep, Lost}
 use Rattle.import_going.specs.declared.start.Spot.{Spot}
 use Rattle.import_going.specs.declared.start.Spot.TheVariants.{Atom as AtomAt, Result as ResultAt, Lost as LostAt, Deep as DeepAt}
-use Rattle.import_going.specs.declared.behind.Found.{Found}
-use Rattle.import_going.specs.declared.behind.Found.TheVariants.{At, Nothing}
+use Rattle.std.specs.Prelude.{Option, Some, None}
 use Rattle.import_going.specs.Going.{upto, found_at, reached, Behind}
 use Rattle.import_going.specs.Turns.{bit_of, opened_of, turn_of, cond_at, Spotted}
 
@@ -162,31 +161,27 @@ unfolding next_case upto
 case_upto [] = refl
 case_upto (k ∷ w) = ap (λ (p : Place). if (eqb k 59) (go w false []) p) (case_upto w)
 
-pub colon_found : (text : List ℕ) (from i : ℕ) (f : Found) → f ≡ At i → Behind 58 text from f → Spotted text (after_colon (drop from text)) (ResultAt i)
+pub colon_found : (text : List ℕ) (from i : ℕ) (f : Option ℕ) → f ≡ Some i → Behind 58 text from f → Spotted text (after_colon (drop from text)) (ResultAt i)
 unfolding found_at reached
 colon_found text from i f e g = let b = subst (Behind 58 text from) e g in (colon_upto (drop from text) ∙ sym (b.place result_at), b.within)
 
-pub colon_not : (text : List ℕ) (from : ℕ) (f : Found) → f ≡ Nothing → Behind 58 text from f → Spotted text (after_colon (drop from text)) LostAt
+pub colon_not : (text : List ℕ) (from : ℕ) (f : Option ℕ) → f ≡ None → Behind 58 text from f → Spotted text (after_colon (drop from text)) LostAt
 unfolding found_at
 colon_not text from f e g = let b = subst (Behind 58 text from) e g in colon_upto (drop from text) ∙ sym (b.place result_at)
 
-pub case_within : (text : List ℕ) (from i : ℕ) (f : Found) → f ≡ At i → Behind 59 text from f → i ≤ length text
+pub case_within : (text : List ℕ) (from i : ℕ) (f : Option ℕ) → f ≡ Some i → Behind 59 text from f → i ≤ length text
 unfolding reached
 case_within text from i f e g = (subst (Behind 59 text from) e g).within
 
-pub case_found : (text : List ℕ) (from i : ℕ) (o : Spot) (f : Found) → f ≡ At i → Behind 59 text from f → Spotted text (go (drop i text) false (signs 0 0)) o → Spotted text (next_case (drop from text)) o
+pub case_found : (text : List ℕ) (from i : ℕ) (o : Spot) (f : Option ℕ) → f ≡ Some i → Behind 59 text from f → Spotted text (go (drop i text) false (signs 0 0)) o → Spotted text (next_case (drop from text)) o
 unfolding found_at signs
 case_found text from i o f e g d = let b = subst (Behind 59 text from) e g in subst (λ (p : Place). Spotted text p o) (b.place (λ v. go v false []) ∙ sym (case_upto (drop from text))) d
 
-pub case_not : (text : List ℕ) (from : ℕ) (f : Found) → f ≡ Nothing → Behind 59 text from f → Spotted text (next_case (drop from text)) LostAt
+pub case_not : (text : List ℕ) (from : ℕ) (f : Option ℕ) → f ≡ None → Behind 59 text from f → Spotted text (next_case (drop from text)) LostAt
 unfolding found_at
 case_not text from f e g = let b = subst (Behind 59 text from) e g in case_upto (drop from text) ∙ sym (b.place (λ v. go v false []))
 
 -- ---- the code's tests
-
-pub not_space : (k : ℕ) → (k ≡ 32 → ⊥) → (k ≡ 9 → ⊥) → (k ≡ 10 → ⊥) → (k ≡ 13 → ⊥) → false ≡ is_space k
-unfolding is_space
-not_space k a b c d = sym (λ i. if (ne_eqb k 32 a i) true (if (ne_eqb k 9 b i) true (if (ne_eqb k 10 c i) true (ne_eqb k 13 d i))))
 
 pub too_deep : (s : Going) → 32 ≤ s.count → Deep ≡ opened_of s
 unfolding opened_of
@@ -196,35 +191,6 @@ pub not_deep : (s : Going) (b : ℕ) → s.count < 32 → b ≡ bit_of s.sign �
 unfolding opened_of
 not_deep s b h e = by_test (leb 32 s.count) (λ t. On (record { sign = false; mask = s.mask * 2 + b; count = s.count + 1 }) ≡ if t Deep (On (record { sign = false; mask = s.mask * 2 + bit_of s.sign; count = s.count + 1 })))
     (λ t. absurd (omega (arith, h, leb→le 32 s.count t))) (λ _. ap (λ (n : ℕ). On (record { sign = false; mask = s.mask * 2 + n; count = s.count + 1 })) e)
-
-pub turn_bang : (s : Going) (k : ℕ) (c b : Bool) → k ≡ 33 → b ≡ not s.sign → On (record { sign = b; mask = s.mask; count = s.count }) ≡ turn_of s k c
-unfolding turn_of
-turn_bang s k c b e q = ap (λ (x : Bool). On (record { sign = x; mask = s.mask; count = s.count })) q
-    ∙ sym (ap (λ (x : Bool). if x (On (record { sign = not s.sign; mask = s.mask; count = s.count }))
-    (if (eqb k 40) (if c (opened_of s) Atom) (if (eqb k 101) (if (eqb s.count 0) Else Lost) (if (is_space k) (On s) Atom)))) (eq-eqb k 33 e))
-
-pub turn_open : (s : Going) (k : ℕ) (c b : Bool) → (k ≡ 33 → ⊥) → k ≡ 40 → c ≡ b → if b (opened_of s) Atom ≡ turn_of s k c
-unfolding turn_of
-turn_open s k c b n e q = sym (λ i. if (ne_eqb k 33 n i) (On (record { sign = not s.sign; mask = s.mask; count = s.count }))
-    (if (eq-eqb k 40 e i) (if (q i) (opened_of s) Atom) (if (eqb k 101) (if (eqb s.count 0) Else Lost) (if (is_space k) (On s) Atom))))
-
-pub turn_else : (s : Going) (k : ℕ) (c b : Bool) → (k ≡ 33 → ⊥) → (k ≡ 40 → ⊥) → k ≡ 101 → eqb s.count 0 ≡ b → if b Else Lost ≡ turn_of s k c
-unfolding turn_of
-turn_else s k c b n m e q = sym (λ i. if (ne_eqb k 33 n i) (On (record { sign = not s.sign; mask = s.mask; count = s.count }))
-    (if (ne_eqb k 40 m i) (if c (opened_of s) Atom) (if (eq-eqb k 101 e i) (if (q i) Else Lost) (if (is_space k) (On s) Atom))))
-
-pub turn_other : (s : Going) (k : ℕ) (c b : Bool) → (k ≡ 33 → ⊥) → (k ≡ 40 → ⊥) → (k ≡ 101 → ⊥) → is_space k ≡ b → if b (On s) Atom ≡ turn_of s k c
-unfolding turn_of
-turn_other s k c b n m o q = sym (λ i. if (ne_eqb k 33 n i) (On (record { sign = not s.sign; mask = s.mask; count = s.count }))
-    (if (ne_eqb k 40 m i) (if c (opened_of s) Atom) (if (ne_eqb k 101 o i) (if (eqb s.count 0) Else Lost) (if (q i) (On s) Atom))))
-
-pub cond_yes : (w : List ℕ) (i k : ℕ) → k ≡ 40 → is_cond (drop (i + 1) w) 0 ≡ cond_at w i k
-unfolding cond_at
-cond_yes w i k e = sym (ap (λ (b : Bool). if b (is_cond (drop (i + 1) w) 0) false) (eq-eqb k 40 e))
-
-pub cond_not : (w : List ℕ) (i k : ℕ) → (k ≡ 40 → ⊥) → false ≡ cond_at w i k
-unfolding cond_at
-cond_not w i k n = sym (ap (λ (b : Bool). if b (is_cond (drop (i + 1) w) 0) false) (ne_eqb k 40 n))
 
 -- ---- once an atom is decided
 

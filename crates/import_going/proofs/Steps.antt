@@ -12,37 +12,29 @@ use borrow.Author.Tests.{ne_eqb, eq-eqb}
 use Rattle.whole.specs.Cases.{if}
 use Rattle.import_found.specs.Places.{Place, is_cond}
 use Rattle.import_places.proofs.Steps.{not_zero, less_one}
-use Rattle.import_going.specs.declared.bracket.Seen.{Seen}
-use Rattle.import_going.specs.declared.bracket.Seen.TheVariants.{On, Is}
-use Rattle.import_going.specs.declared.behind.Found.TheVariants.{At, Nothing}
+use Rattle.std.specs.declared.ops.ControlFlow.{ControlFlow}
+use Rattle.std.specs.declared.ops.ControlFlow.TheVariants.{Continue, Break}
+use Rattle.std.specs.Prelude.{Some, None}
 use Rattle.import_going.specs.Going.{is_mark, seen_of, upto, found_at, reached, Behind}
 
 -- ---- a bracket
 
-pub not_mark : (k : ℕ) → (k ≡ 60 → ⊥) → (k ≡ 62 → ⊥) → (k ≡ 67 → ⊥) → (k ≡ 78 → ⊥) → false ≡ is_mark k
-unfolding is_mark
-not_mark k a b c d = sym (λ i. if (ne_eqb k 60 a i) true (if (ne_eqb k 62 b i) true (if (ne_eqb k 67 c i) true (ne_eqb k 78 d i))))
+abbrev pub seen_after : List ℕ → ControlFlow Bool ℕ → Bool
+seen_after w (Continue d) = is_cond w d
+seen_after w (Break b) = b
 
-pub see_mark : (d k : ℕ) (m : Bool) → (k ≡ 40 → ⊥) → (k ≡ 41 → ⊥) → is_mark k ≡ m → if m (Is true) (On d) ≡ seen_of d k
-unfolding seen_of
-see_mark d k m a b e = sym (λ i. if (ne_eqb k 40 a i) (On (d + 1)) (if (ne_eqb k 41 b i) (if (eqb d 0) (Is false) (On (d - 1))) (if (e i) (Is true) (On d))))
-
-abbrev pub seen_after : List ℕ → Seen → Bool
-seen_after w (On d) = is_cond w d
-seen_after w (Is b) = b
-
-alike : (w : List ℕ) (b : Bool) (x y : Bool) (x' y' : Seen) → x ≡ seen_after w x' → y ≡ seen_after w y' → if b x y ≡ seen_after w (if b x' y')
+alike : (w : List ℕ) (b : Bool) (x y : Bool) (x' y' : ControlFlow Bool ℕ) → x ≡ seen_after w x' → y ≡ seen_after w y' → if b x y ≡ seen_after w (if b x' y')
 alike w true x y x' y' p q = p
 alike w false x y x' y' p q = q
 
-marks : (w : List ℕ) (d : ℕ) (a b c e : Bool) → if a true (if b true (if c true (if e true (is_cond w d)))) ≡ seen_after w (if (if a true (if b true (if c true e))) (Is true) (On d))
+marks : (w : List ℕ) (d : ℕ) (a b c e : Bool) → if a true (if b true (if c true (if e true (is_cond w d)))) ≡ seen_after w (if (if a true (if b true (if c true e))) (Break true) (Continue d))
 marks w d true b c e = refl
 marks w d false true c e = refl
 marks w d false false true e = refl
 marks w d false false false true = refl
 marks w d false false false false = refl
 
-otherwise : (w : List ℕ) (x y : Seen) (b : Bool) → b ≡ false → seen_after w y ≡ seen_after w (if b x y)
+otherwise : (w : List ℕ) (x y : ControlFlow Bool ℕ) (b : Bool) → b ≡ false → seen_after w y ≡ seen_after w (if b x y)
 otherwise w x y b e = sym (ap (λ (t : Bool). seen_after w (if t x y)) e)
 
 one_seen : (k : ℕ) (w : List ℕ) (d : ℕ) → is_cond (k ∷ w) d ≡ seen_after w (seen_of d k)
@@ -50,19 +42,19 @@ unfolding is_cond seen_of is_mark
 one_seen k w zero = alike w (eqb k 40) _ _ _ _ refl (alike w (eqb k 41) _ _ _ _ refl (marks w zero (eqb k 60) (eqb k 62) (eqb k 67) (eqb k 78)))
 one_seen k w (suc d) =
     alike w (eqb k 40) _ _ _ _ (ap (is_cond w) (sym (add-one (suc d))))
-    (alike w (eqb k 41) _ _ _ _ (ap (is_cond w) (less_one d) ∙ otherwise w (Is false) (On (suc d - 1)) (eqb (suc d) 0) (not_zero d))
+    (alike w (eqb k 41) _ _ _ _ (ap (is_cond w) (less_one d) ∙ otherwise w (Break false) (Continue (suc d - 1)) (eqb (suc d) 0) (not_zero d))
     (marks w (suc d) (eqb k 60) (eqb k 62) (eqb k 67) (eqb k 78)))
 
-pub on_seen : (text : List ℕ) (d i : ℕ) (t : Seen) → i < length text → t ≡ seen_of d (get_or text i 0) → is_cond (drop i text) d ≡ seen_after (drop (i + 1) text) t
+pub on_seen : (text : List ℕ) (d i : ℕ) (t : ControlFlow Bool ℕ) → i < length text → t ≡ seen_of d (get_or text i 0) → is_cond (drop i text) d ≡ seen_after (drop (i + 1) text) t
 on_seen text d i t h e =
     ap (λ (w : List ℕ). is_cond w d) (drop-cons text i 0 h) ∙ one_seen (get_or text i 0) (drop (suc i) text) d
     ∙ ap (seen_after (drop (suc i) text)) (sym e) ∙ ap (λ (j : ℕ). seen_after (drop j text) t) (sym (add-one i))
 
-abbrev depth_after : Seen → ℕ
-depth_after (On d) = d
-depth_after (Is b) = 0
+abbrev depth_after : ControlFlow Bool ℕ → ℕ
+depth_after (Continue d) = d
+depth_after (Break b) = 0
 
-shallow : (n : ℕ) (b : Bool) (x y : Seen) → depth_after x ≤ n → depth_after y ≤ n → depth_after (if b x y) ≤ n
+shallow : (n : ℕ) (b : Bool) (x y : ControlFlow Bool ℕ) → depth_after x ≤ n → depth_after y ≤ n → depth_after (if b x y) ≤ n
 shallow n true x y p q = p
 shallow n false x y p q = q
 
@@ -72,8 +64,8 @@ seen_depth d k =
     shallow (d + 1) (eqb k 40) _ _ (omega arith)
     (shallow (d + 1) (eqb k 41) _ _ (shallow (d + 1) (eqb d 0) _ _ (omega arith) (omega arith)) (shallow (d + 1) (is_mark k) _ _ (omega arith) (omega arith)))
 
-pub on_depth : (d e k : ℕ) → On e ≡ seen_of d k → e ≤ d + 1
-on_depth d e k q = subst (λ (t : Seen). depth_after t ≤ d + 1) (sym q) (seen_depth d k)
+pub on_depth : (d e k : ℕ) → Continue e ≡ seen_of d k → e ≤ d + 1
+on_depth d e k q = subst (λ (t : ControlFlow Bool ℕ). depth_after t ≤ d + 1) (sym q) (seen_depth d k)
 
 pub record Seeing (text : List ℕ) (meant : Bool) (d i : ℕ) : Type 0 where
   pub within : i ≤ length text
@@ -103,10 +95,10 @@ at_byte c text i b h e K =
 pub pass_on : (c : ℕ) (text : List ℕ) (from i : ℕ) → Passing c text from i → i < length text → (get_or text i 0 ≡ c → ⊥) → Passing c text from (i + 1)
 pass_on c text from i p h n = record { within = omega (arith, h); rest = λ K. sym (at_byte c text i false h (ne_eqb _ _ n) K) ∙ p.rest K }
 
-pub pass_found : (c : ℕ) (text : List ℕ) (from i : ℕ) → Passing c text from i → i < length text → get_or text i 0 ≡ c → Behind c text from (At (i + 1))
+pub pass_found : (c : ℕ) (text : List ℕ) (from i : ℕ) → Passing c text from i → i < length text → get_or text i 0 ≡ c → Behind c text from (Some (i + 1))
 unfolding found_at reached
 pass_found c text from i p h e = record { place = λ K. sym (at_byte c text i true h (eq-eqb _ _ e) K) ∙ p.rest K; within = omega (arith, h) }
 
-pub pass_end : (c : ℕ) (text : List ℕ) (from i : ℕ) → Passing c text from i → length text ≤ i → Behind c text from Nothing
+pub pass_end : (c : ℕ) (text : List ℕ) (from i : ℕ) → Passing c text from i → length text ≤ i → Behind c text from None
 unfolding found_at reached upto
 pass_end c text from i p h = record { place = λ K. ap (upto c K) (sym (drop_of_length-le text h)) ∙ p.rest K; within = omega arith }

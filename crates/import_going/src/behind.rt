@@ -2,23 +2,14 @@
 ghost use Rattle.std.specs.Prelude.{◌≤◌, length};
 ghost use Rattle.import_going.specs.Going.{Behind};
 
-#[derive(Clone, Copy)]
-pub enum Found {
-    At(usize),
-    Nothing,
-}
-
-pub fn behind(text: &[u8], from: usize, k: u8) -> Found
+pub fn behind(text: &[u8], from: usize, k: u8) -> Option<usize>
     requires { from ≤ length text.now }
     ensures { Behind k text.now from result }
 {
-    let mut i = from;
-    while i < text.len() {
-        let b = text[i];
-        i += 1;
-        if b == k {
-            return Found::At(i);
+    for i in from..text.len() {
+        if text[i] == k {
+            return Some(i + 1);
         }
     }
-    Found::Nothing
+    None
 }

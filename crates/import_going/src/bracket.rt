@@ -4,48 +4,28 @@ ghost use Rattle.import_model.specs.Import.{text_most};
 ghost use Rattle.import_found.specs.Places.{is_cond};
 ghost use Rattle.import_going.specs.Going.{seen_of, is_mark};
 
-// Brackets that are open inside, or the answer.
-#[derive(Clone, Copy)]
-pub enum Seen {
-    On(usize),
-    Is(bool),
-}
+use std::ops::ControlFlow;
 
+#[tactic(auto, unfolding(crate::specs::Going::is_mark))]
 fn mark(k: u8) -> bool
     ensures { result ≡ is_mark k }
 {
-    if k == 60 {
-        return true;
-    }
-    if k == 62 {
-        return true;
-    }
-    if k == 67 {
-        return true;
-    }
-    if k == 78 {
-        return true;
-    }
-    false
+    matches!(k, b'<' | b'>' | b'C' | b'N')
 }
 
-fn see(depth: usize, k: u8) -> Seen
+// On with so many brackets open inside, or the answer.
+#[tactic(auto, unfolding(crate::specs::Going::seen_of))]
+fn see(depth: usize, k: u8) -> ControlFlow<bool, usize>
     requires { depth < 4294967296 }
     ensures { result ≡ seen_of depth k }
 {
-    if k == 40 {
-        return Seen::On(depth + 1);
+    match k {
+        b'(' => ControlFlow::Continue(depth + 1),
+        b')' if depth == 0 => ControlFlow::Break(false),
+        b')' => ControlFlow::Continue(depth - 1),
+        _ if mark(k) => ControlFlow::Break(true),
+        _ => ControlFlow::Continue(depth),
     }
-    if k == 41 {
-        if depth == 0 {
-            return Seen::Is(false);
-        }
-        return Seen::On(depth - 1);
-    }
-    if mark(k) {
-        return Seen::Is(true);
-    }
-    Seen::On(depth)
 }
 
 pub fn is_cond(text: &[u8], from: usize) -> bool
@@ -53,17 +33,10 @@ pub fn is_cond(text: &[u8], from: usize) -> bool
     ensures { result ≡ is_cond (drop from text.now) 0 }
 {
     let mut depth: usize = 0;
-    let mut i = from;
-    while i < text.len() {
-        let s = see(depth, text[i]);
-        i += 1;
-        match s {
-            Seen::On(d) => {
-                depth = d;
-            }
-            Seen::Is(b) => {
-                return b;
-            }
+    for i in from..text.len() {
+        match see(depth, text[i]) {
+            ControlFlow::Continue(d) => depth = d,
+            ControlFlow::Break(cond) => return cond,
         }
     }
     false

@@ -5,12 +5,13 @@ ghost use Rattle.import_found.specs.Places.{after_colon, next_case, find as plac
 ghost use Rattle.import_places.specs.Walking.{signs, two_to};
 ghost use Rattle.import_going.specs.Turns.{cond_at, Spotted};
 
-use crate::behind::{Found, behind};
+use crate::behind::behind;
 use crate::bracket::is_cond;
 use crate::turning::{Going, Turn, after_byte};
 use import_places::{Next, find};
 
-// An atom with its sign and the signs around it, a result, nothing, or more brackets than a text may have.
+// An atom with its sign and the signs around it, a result, nothing, or more brackets than a text may have. No `Result`: the last
+// two are taken apart from the others in one `match`.
 #[derive(Clone, Copy)]
 pub enum Spot {
     Atom(usize, bool, u64, u32),
@@ -20,14 +21,12 @@ pub enum Spot {
 }
 
 // Whether a bracket of a condition is opened here.
+#[tactic(auto, unfolding(crate::specs::Turns::cond_at))]
 fn bracket_at(text: &[u8], i: usize, k: u8) -> bool
     requires { (i < length text.now) × (length text.now ≤ text_most) }
     ensures { result ≡ cond_at text.now i k }
 {
-    if k == 40 {
-        return is_cond(text, i + 1);
-    }
-    false
+    k == b'(' && is_cond(text, i + 1)
 }
 
 // The result behind an else.
@@ -35,10 +34,9 @@ fn result_behind(text: &[u8], from: usize) -> Spot
     requires { from ≤ length text.now }
     ensures { Spotted text.now (after_colon (drop from text.now)) result }
 {
-    let f = behind(text, from, 58);
-    match f {
-        Found::At(i) => Spot::Result(i),
-        Found::Nothing => Spot::Lost,
+    match behind(text, from, b':') {
+        Some(i) => Spot::Result(i),
+        None => Spot::Lost,
     }
 }
 
@@ -51,28 +49,15 @@ pub fn go(text: &[u8], from: usize, mask: u64, count: u32) -> Spot
         mask,
         count,
     };
-    let mut i = from;
-    while i < text.len() {
+    for i in from..text.len() {
         let k = text[i];
         let cond = bracket_at(text, i, k);
-        let t = after_byte(s, k, cond);
-        match t {
-            Turn::On(g) => {
-                s = g;
-                i += 1;
-            }
-            Turn::Atom => {
-                return Spot::Atom(i, s.sign, s.mask, s.count);
-            }
-            Turn::Else => {
-                return result_behind(text, i + 1);
-            }
-            Turn::Deep => {
-                return Spot::Deep;
-            }
-            Turn::Lost => {
-                return Spot::Lost;
-            }
+        match after_byte(s, k, cond) {
+            Turn::On(g) => s = g,
+            Turn::Atom => return Spot::Atom(i, s.sign, s.mask, s.count),
+            Turn::Else => return result_behind(text, i + 1),
+            Turn::Deep => return Spot::Deep,
+            Turn::Lost => return Spot::Lost,
         }
     }
     Spot::Lost
@@ -83,10 +68,9 @@ pub fn next_case(text: &[u8], from: usize) -> Spot
     requires { (from ≤ length text.now) × (length text.now ≤ text_most) }
     ensures { Spotted text.now (next_case (drop from text.now)) result }
 {
-    let f = behind(text, from, 59);
-    match f {
-        Found::At(i) => go(text, i, 0, 0),
-        Found::Nothing => Spot::Lost,
+    match behind(text, from, b';') {
+        Some(i) => go(text, i, 0, 0),
+        None => Spot::Lost,
     }
 }
 
@@ -95,8 +79,7 @@ pub fn decided(text: &[u8], from: usize, value: bool, mask: u64, count: u32) -> 
     requires { (from ≤ length text.now) × (length text.now ≤ text_most) × (mask < two_to count) }
     ensures { Spotted text.now (place_after (drop from text.now) 0 value false (signs mask count)) result }
 {
-    let n = find(text, from, value, mask, count);
-    match n {
+    match find(text, from, value, mask, count) {
         Next::Go(i, m, c) => go(text, i, m, c),
         Next::Result(i) => Spot::Result(i),
         Next::NextCase(i) => next_case(text, i),

@@ -12,6 +12,7 @@ pub struct Going {
     pub count: u32,
 }
 
+// No `ControlFlow`: the ways to end are told apart beside going on, in one `match`.
 #[derive(Clone, Copy)]
 pub enum Turn {
     On(Going),
@@ -23,40 +24,11 @@ pub enum Turn {
 
 pub const DEEPEST: u32 = 32;
 
+#[tactic(auto, unfolding(import_found::specs::Places::is_space))]
 fn space(k: u8) -> bool
     ensures { result ≡ is_space k }
 {
-    if k == 32 {
-        return true;
-    }
-    if k == 9 {
-        return true;
-    }
-    if k == 10 {
-        return true;
-    }
-    if k == 13 {
-        return true;
-    }
-    false
-}
-
-fn bit(sign: bool) -> u64
-    ensures { result ≡ bit_of sign }
-{
-    if sign {
-        return 1;
-    }
-    0
-}
-
-fn other(sign: bool) -> bool
-    ensures { result ≡ not sign }
-{
-    if sign {
-        return false;
-    }
-    true
+    matches!(k, b' ' | b'\t' | b'\n' | b'\r')
 }
 
 // A bracket of a condition is opened.
@@ -67,40 +39,25 @@ fn opened(s: Going) -> Turn
     if s.count >= DEEPEST {
         return Turn::Deep;
     }
-    let low = bit(s.sign);
     Turn::On(Going {
         sign: false,
-        mask: s.mask * 2 + low,
+        mask: s.mask * 2 + u64::from(s.sign),
         count: s.count + 1,
     })
 }
 
+#[tactic(auto, unfolding(crate::specs::Turns::turn_of))]
 pub fn after_byte(s: Going, k: u8, cond: bool) -> Turn
     requires { s.mask < two_to s.count }
     ensures { result ≡ turn_of s k cond }
 {
-    if k == 33 {
-        let sign = other(s.sign);
-        return Turn::On(Going {
-            sign,
-            mask: s.mask,
-            count: s.count,
-        });
+    match k {
+        b'!' => Turn::On(Going { sign: !s.sign, ..s }),
+        b'(' if cond => opened(s),
+        b'(' => Turn::Atom,
+        b'e' if s.count == 0 => Turn::Else,
+        b'e' => Turn::Lost,
+        _ if space(k) => Turn::On(s),
+        _ => Turn::Atom,
     }
-    if k == 40 {
-        if cond {
-            return opened(s);
-        }
-        return Turn::Atom;
-    }
-    if k == 101 {
-        if s.count == 0 {
-            return Turn::Else;
-        }
-        return Turn::Lost;
-    }
-    if space(k) {
-        return Turn::On(s);
-    }
-    Turn::Atom
 }

@@ -12,6 +12,7 @@ use import_state::bytes::{NAME, NEXT, forbidden_letter, is_digit, is_plain, lett
 use import_state::{DEEPEST, Kind, NAME_CHARS, Place, Setting, Side, State, Token};
 
 // "site": m, n, A and W.
+#[tactic(auto, unfolding(crate::specs::Items::setting_letter))]
 fn setting_letter(of: Setting) -> u8
     ensures { result ≡ setting-letter-of of }
 {
@@ -24,6 +25,7 @@ fn setting_letter(of: Setting) -> u8
 }
 
 // A setting's letter is expected.
+#[tactic(auto, unfolding(crate::specs::Items::on_site))]
 pub fn on_site(of: Setting, k: u8) -> State
     ensures { result ≡ on-site-of of k }
 {
@@ -35,6 +37,7 @@ pub fn on_site(of: Setting, k: u8) -> State
 }
 
 // After a setting: the next one, or an item.
+#[tactic(auto, unfolding(crate::specs::Items::settled))]
 fn settled(of: Setting, k: u8) -> State
     ensures { result ≡ settled-of of k }
 {
@@ -46,91 +49,76 @@ fn settled(of: Setting, k: u8) -> State
     }
 }
 
+#[tactic(auto, unfolding(crate::specs::Items::on_set))]
 pub fn on_set(of: Setting, more: bool, k: u8) -> State
     ensures { result ≡ on-set-of of more k }
 {
-    if is_digit(k) {
-        return if more {
-            State::At(Place::Set(of, true))
-        } else {
-            State::Dead
-        };
+    if !is_digit(k) {
+        settled(of, k)
+    } else if more {
+        State::At(Place::Set(of, true))
+    } else {
+        State::Dead
     }
-    settled(of, k)
 }
 
 // After an item's number.
+#[tactic(auto, unfolding(crate::specs::Items::opened))]
 fn opened(kind: Kind, k: u8) -> State
     ensures { result ≡ opened_of kind k }
 {
     match kind {
-        Kind::Reward => if k == b'=' {
-            State::At(Place::Atom(DEEPEST, DEEPEST, true))
-        } else {
-            State::Dead
-        },
-        Kind::Chance => if k == b'N' {
-            State::In(Token::Chance)
-        } else {
-            State::Dead
-        },
-        Kind::Next => if k == b'L' {
-            State::In(Token::Next)
-        } else {
-            State::Dead
-        },
-        Kind::Name => if k == b'"' {
-            State::In(Token::Name(NAME_CHARS))
-        } else {
-            State::Dead
-        },
+        Kind::Reward if k == b'=' => State::At(Place::Atom(DEEPEST, DEEPEST, true)),
+        Kind::Chance if k == b'N' => State::In(Token::Chance),
+        Kind::Next if k == b'L' => State::In(Token::Next),
+        Kind::Name if k == b'"' => State::In(Token::Name(NAME_CHARS)),
+        _ => State::Dead,
     }
 }
 
+#[tactic(auto, unfolding(crate::specs::Items::on_given))]
 pub fn on_given(kind: Kind, more: bool, k: u8) -> State
     ensures { result ≡ on-given-of kind more k }
 {
-    if is_digit(k) {
-        return if more {
-            State::At(Place::Given(kind, true))
-        } else {
-            State::Dead
-        };
+    if !is_digit(k) {
+        opened(kind, k)
+    } else if more {
+        State::At(Place::Given(kind, true))
+    } else {
+        State::Dead
     }
-    opened(kind, k)
 }
 
 // Behind a name: a second quotation mark right behind the first is a character.
+#[tactic(auto, unfolding(crate::specs::Items::on_quoted))]
 pub fn on_quoted(room: u8, more: bool, k: u8) -> State
     ensures { result ≡ on-quoted-of room more k }
 {
-    if k == b'"' {
-        if 0 < room {
-            if more {
-                return State::In(Token::Name(room - 1));
-            }
-        }
-        return State::Dead;
+    if k != b'"' {
+        item(k)
+    } else if 0 < room && more {
+        State::In(Token::Name(room - 1))
+    } else {
+        State::Dead
     }
-    item(k)
 }
 
 // In a name that may have `room` more characters.
+#[tactic(auto, unfolding(crate::specs::Items::on_name))]
 pub fn on_name(room: u8, k: u8) -> State
     ensures { result ≡ on-name-of room k }
 {
     if k == b'"' {
-        return State::At(Place::Quoted(room, true));
+        State::At(Place::Quoted(room, true))
+    } else if 0 < room && is_plain(k) {
+        State::In(Token::Name(room - 1))
+    } else {
+        State::Dead
     }
-    if 0 < room {
-        if is_plain(k) {
-            return State::In(Token::Name(room - 1));
-        }
-    }
-    State::Dead
 }
 
 // After a letter of a word: what the word begins, or the next letter.
+#[tactic(auto, unfolding(crate::specs::Items::worded))]
 fn worded(n: u8) -> State
     ensures { result ≡ worded-of n }
 {
@@ -147,6 +135,7 @@ fn worded(n: u8) -> State
     }
 }
 
+#[tactic(auto, unfolding(crate::specs::Items::on_word))]
 pub fn on_word(n: u8, k: u8) -> State
     ensures { result ≡ on-word-of n k }
 {
@@ -157,20 +146,21 @@ pub fn on_word(n: u8, k: u8) -> State
     }
 }
 
+#[tactic(auto, unfolding(crate::specs::Items::on_forbidden))]
 pub fn on_forbidden(side: Side, n: u8, k: u8) -> State
     ensures { result ≡ on-forbidden-of side n k }
 {
-    if k == forbidden_letter(n) {
-        return if 1 < n {
-            State::In(Token::Forbidden(side, n - 1))
-        } else {
-            State::At(Place::Forbade(side))
-        };
+    if k != forbidden_letter(n) {
+        State::Dead
+    } else if 1 < n {
+        State::In(Token::Forbidden(side, n - 1))
+    } else {
+        State::At(Place::Forbade(side))
     }
-    State::Dead
 }
 
 // "next" and "name" begin alike.
+#[tactic(auto, unfolding(crate::specs::Items::on_next_or_name))]
 pub fn on_next_or_name(k: u8) -> State
     ensures { result ≡ on-next-or-name-of k }
 {

@@ -6,7 +6,7 @@ ghost use Rattle.model.specs.Answers.{shown};
 ghost use Rattle.import_judge.specs.Refusal.{text_refusal};
 
 use import_beyond::beyond;
-use import_scan::{Scanned, scan};
+use import_scan::scan;
 use model::Verdict;
 use model_progress::refusals::SIZES;
 
@@ -32,7 +32,7 @@ pub fn judge(text: &[u8]) -> Verdict
     if TEXT_MOST < text.len() {
         return refusal(SIZES, 0);
     }
-    if let Scanned::Stops(i) = scan(text) {
+    if let Err(i) = scan(text) {
         return refusal(OUTSIDE, i);
     }
     if beyond(text) {

@@ -1,13 +1,13 @@
 -- What a test of 32 bits says, the loop over nine numbers, and products as they are read back.
 use mathlib.Core.Path.{◌≡◌, sym, ap, ◌∙◌}
-use mathlib.Core.Bool.{Bool, true, false, ◌&&◌, not}
+use mathlib.Core.Bool.{Bool, true, false, ◌&&◌}
 use mathlib.Core.List.{List}
 use Prim.Native.Nat.{ℕ, ◌+◌, ◌-◌, ◌≤◌, ◌<◌, ◌^◌}
 use native.Mathlib.Omega.{arith}
-use borrow.Author.Tests.{ltb-true, ltb-false, lt-leb, le-leb, lt-ltb, le-ltb}
+use borrow.Author.Tests.{le-ltb}
 use lib.IntN.{ℤ, pos, negsuc}
 use lib.ListN.{length, get_or, set, drop, drop_of_length-le}
-use lib.Signed.{mag, le_z, lt_z}
+use lib.Signed.{mag, le_z}
 use mir.Syntax.{w64}
 use mir.Val.{SFits}
 use Rattle.whole.specs.Cases.{if}
@@ -21,19 +21,14 @@ use Rattle.import_linears.specs.Nine.{constant9, level9, last, flat, multiplied}
 abbrev least : ℤ
 least = negsuc 2147483647
 
-not_less : (z : ℤ) (b : Bool) → lt_z z least ≡ b → le_z least z ≡ not b
-not_less (pos k) b t = ap not t
-not_less (negsuc k) true t = lt-leb k 2147483647 (ltb-true 2147483647 k t)
-not_less (negsuc k) false t = le-leb k 2147483647 (ltb-false 2147483647 k t)
-
 module _ (z : ℤ) (f : SFits w64 z) where
-  pub below : lt_z (R z) least ≡ true → false ≡ in_32_bits z
+  pub below : le_z least (R z) ≡ false → false ≡ in_32_bits z
   unfolding in_32_bits
-  below t = sym (ap (λ (b : Bool). b && le_z z (pos 2147483647)) (not_less z true (ap (λ (y : ℤ). lt_z y least) (sym (back z f)) ∙ t)))
+  below t = sym (ap (λ (b : Bool). b && le_z z (pos 2147483647)) (ap (le_z least) (sym (back z f)) ∙ t))
 
-  pub above : lt_z (R z) least ≡ false → le_z (R z) (pos 2147483647) ≡ in_32_bits z
+  pub above : le_z least (R z) ≡ true → le_z (R z) (pos 2147483647) ≡ in_32_bits z
   unfolding in_32_bits
-  above t = ap (λ (y : ℤ). le_z y (pos 2147483647)) (back z f) ∙ sym (ap (λ (b : Bool). b && le_z z (pos 2147483647)) (not_less z false (ap (λ (y : ℤ). lt_z y least) (sym (back z f)) ∙ t)))
+  above t = ap (λ (y : ℤ). le_z y (pos 2147483647)) (back z f) ∙ sym (ap (λ (b : Bool). b && le_z z (pos 2147483647)) (ap (le_z least) (sym (back z f)) ∙ t))
 
 -- what is left decides
 module _ (a : List ℤ) (n : length a ≡ numbers) (i : ℕ) (is : all_within (drop i a) ≡ all_within a) where
@@ -61,14 +56,6 @@ module _ (a : List ℤ) (n : length a ≡ numbers) (i : ℕ) (is : all_within (d
 -- a number as it is read back
 pub as_constant : (n : ℕ) {z : ℤ} → z ≡ pos n → constant9 z ≡ constant9 (pos n)
 as_constant n e = ap constant9 e
-
-pub level_low : (k : ℕ) → k < 49 → constant9 (pos 0) ≡ level9 k
-unfolding level9
-level_low k h = rw (lt-ltb k 49 h)
-
-pub level_high : (k : ℕ) → 49 ≤ k → 56 < k → constant9 (pos 0) ≡ level9 k
-unfolding level9
-level_high k g h = rw (le-ltb k 49 g, lt-ltb 56 k h)
 
 pub level_is : (k : ℕ) → 49 ≤ k → k ≤ 56 → set (constant9 (pos 0)) (k - 49) (pos 1) ≡ level9 k
 unfolding level9

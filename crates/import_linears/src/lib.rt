@@ -18,21 +18,15 @@ pub const MOST: u64 = 2147483647;
 fn fits(z: i64) -> bool
     ensures { result ≡ in_32_bits z }
 {
-    if z < -2147483648 {
-        return false;
-    }
-    z <= 2147483647
+    -2147483648 <= z && z <= 2147483647
 }
 
 // Whether all numbers are.
 pub fn all_fit(a: [i64; NUMBERS]) -> bool
     ensures { result ≡ all_within a }
 {
-    let mut i: usize = 0;
-    while i < NUMBERS {
-        if fits(a[i]) {
-            i += 1;
-        } else {
+    for i in 0..NUMBERS {
+        if !fits(a[i]) {
             return false;
         }
     }
@@ -49,18 +43,14 @@ pub fn constant(n: u64) -> [i64; NUMBERS]
 }
 
 // A level as a linear, by its digit.
+#[tactic(auto, using(crate::proofs::Laws::level_is), unfolding(crate::specs::Nine::level9))]
 pub fn level(k: u8) -> [i64; NUMBERS]
     ensures { result ≡ level9 k }
 {
     let mut out = [0i64; NUMBERS];
-    if k < 49 {
-        return out;
+    if matches!(k, b'1'..=b'8') {
+        out[usize::from(k - b'1')] = 1;
     }
-    if k > 56 {
-        return out;
-    }
-    let i = (k - 49) as usize;
-    out[i] = 1;
     out
 }
 
@@ -69,8 +59,7 @@ fn without_level(a: [i64; NUMBERS]) -> bool
     requires { length a ≡ numbers }
     ensures { result ≡ flat a }
 {
-    let z = a[COEFFICIENTS];
-    equal(a, [0, 0, 0, 0, 0, 0, 0, 0, z])
+    equal(a, [0, 0, 0, 0, 0, 0, 0, 0, a[COEFFICIENTS]])
 }
 
 // The product of two linears, one of them a constant.
@@ -79,9 +68,8 @@ pub fn product(p: [i64; NUMBERS], q: [i64; NUMBERS]) -> [i64; NUMBERS]
     ensures { result ≡ multiplied p q }
 {
     if without_level(p) {
-        let k = p[COEFFICIENTS];
-        return times(k, q);
+        times(p[COEFFICIENTS], q)
+    } else {
+        times(q[COEFFICIENTS], p)
     }
-    let k = q[COEFFICIENTS];
-    times(k, p)
 }

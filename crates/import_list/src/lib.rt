@@ -2,7 +2,6 @@
 #![tactic(auto)]
 
 ghost use Rattle.std.specs.Prelude.{◌≡◌, ◌∷◌, ◌-◌, ◌≤◌, ◌<◌, length};
-ghost use Rattle.import_going.specs.Turns.{bit_of};
 ghost use Rattle.import_list.specs.Packed.{packed, unpacked, FitsWord, entries, Pushed};
 
 // An atom: its place, whether "!" turns it and each bracket around it (innermost in the lowest bit), and whether the
@@ -16,25 +15,14 @@ pub struct Entry {
     pub both: bool,
 }
 
-fn bit(sign: bool) -> u64
-    ensures { (result ≡ bit_of sign) × (result ≤ 1) }
-{
-    if sign {
-        return 1;
-    }
-    0
-}
-
 // From the highest bits: place, count, mask, sign, both.
 fn pack(e: Entry) -> u64
     requires { FitsWord e }
     ensures { result ≡ packed e }
 {
-    let sign = bit(e.sign);
-    let both = bit(e.both);
     let place = e.at as u64;
-    let count = e.count as u64;
-    (((place * 64 + count) * 4294967296 + e.mask) * 2 + sign) * 2 + both
+    let (sign, both) = (u64::from(e.sign), u64::from(e.both));
+    (((place * 64 + u64::from(e.count)) * 4294967296 + e.mask) * 2 + sign) * 2 + both
 }
 
 fn unpack(x: u64) -> Entry

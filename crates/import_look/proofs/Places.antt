@@ -41,9 +41,9 @@ skip_stops w at i s h e t =
       rest = (drop-cons w i 0 h ∙ sym (here w i h ∙ if_no (blank (get_or w i 0)) _ _ (sym e ∙ t))) ∙ s.rest;
     }
 
-pub skip_ends : (w : List ℕ) (at i : ℕ) → Skipping w at i → length w ≤ i → Skips w at i
+pub skip_ends : (w : List ℕ) (at i : ℕ) → Skipping w at i → length w ≤ i → Skips w at (length w)
 unfolding unspaced
-skip_ends w at i s h = record { within = s.within; rest = (drop_of_length-le w h ∙ ap unspaced (sym (drop_of_length-le w h))) ∙ s.rest }
+skip_ends w at i s h = record { within = omega arith; rest = (drop_of_length-le w {i = length w} (omega arith) ∙ ap unspaced (sym (drop_of_length-le w h))) ∙ s.rest }
 
 -- ---- bytes
 

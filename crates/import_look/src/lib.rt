@@ -36,15 +36,12 @@ fn skip(text: &[u8], at: usize) -> usize
     requires { at ≤ length text.now }
     ensures { Skips text.now at result }
 {
-    let mut i = at;
-    while i < text.len() {
-        if is_blank(text[i]) {
-            i += 1;
-        } else {
+    for i in at..text.len() {
+        if !is_blank(text[i]) {
             return i;
         }
     }
-    i
+    text.len()
 }
 
 fn operator_at(text: &[u8], i: usize) -> Operator
@@ -52,8 +49,8 @@ fn operator_at(text: &[u8], i: usize) -> Operator
     ensures { (result ≡ operator_of text.now i) × (result.next ≤ length text.now) }
 {
     if i + 1 < text.len() {
-        let less = byte_at(text, i) == 60;
-        if byte_at(text, i + 1) == 61 {
+        let less = byte_at(text, i) == b'<';
+        if byte_at(text, i + 1) == b'=' {
             return Operator {
                 first: true,
                 turned: !less,
@@ -79,12 +76,11 @@ fn difference(a: [i64; NUMBERS], b: [i64; NUMBERS], first: bool) -> Told
 {
     if all_fit(a) {
         if all_fit(b) {
-            let d = sub(a, b);
             return Told {
                 kind: 0x12,
                 first,
                 condition: 0,
-                linear: d,
+                linear: sub(a, b),
             };
         }
     }
@@ -104,12 +100,10 @@ fn comparison(text: &[u8], at: usize) -> Told
     let a = sum_at(text, at);
     let o = operator_at(text, a.next);
     let b = sum_at(text, o.next);
-    let left = a.linear;
-    let right = b.linear;
     if o.turned {
-        return difference(right, left, o.first);
+        return difference(b.linear, a.linear, o.first);
     }
-    difference(left, right, o.first)
+    difference(a.linear, b.linear, o.first)
 }
 
 // The condition whose digit stands at a place: one now, or one of the next step.
@@ -118,16 +112,12 @@ fn condition(text: &[u8], at: usize, base: u8) -> Told
     ensures { result ≡ condition_told text.now at base }
 {
     let b = byte_at(text, at);
-    let mut number: u8 = 0;
-    if b >= 48 {
-        number = b - 48;
-        number = number + base;
-    }
+    let number = if b >= b'0' { b - b'0' + base } else { 0 };
     Told {
         kind: 0x11,
         first: true,
         condition: number,
-        linear: [0, 0, 0, 0, 0, 0, 0, 0, 0],
+        linear: [0; NUMBERS],
     }
 }
 
@@ -137,14 +127,11 @@ pub fn look(text: &[u8], at: usize) -> Told
     ensures { Looks text.now at result }
 {
     let i = skip(text, at);
-    let k = byte_at(text, i);
-    if k == 67 {
-        return condition(text, i + 1, 0);
+    match byte_at(text, i) {
+        b'C' => condition(text, i + 1, 0),
+        b'N' => condition(text, i + 1, 4),
+        _ => comparison(text, at),
     }
-    if k == 78 {
-        return condition(text, i + 1, 4);
-    }
-    comparison(text, at)
 }
 
 // The result at a place.
@@ -153,7 +140,7 @@ pub fn leaf(text: &[u8], at: usize) -> Told
     ensures { LeafLooks text.now at result }
 {
     let i = skip(text, at);
-    if byte_at(text, i) == 102 {
+    if byte_at(text, i) == b'f' {
         return Told {
             kind: 0x13,
             first: true,

@@ -1,6 +1,6 @@
 -- One byte of the scan takes the place that is looked for one byte on.
 use mathlib.Core.Path.{◌≡◌, refl, sym, ap, ◌∙◌, subst}
-use mathlib.Core.Bool.{Bool, true, false}
+use mathlib.Core.Bool.{Bool, true, false, not, beq}
 use mathlib.Core.List.{List, [], ◌∷◌}
 use Prim.Native.Nat.{ℕ, zero, suc, ◌+◌, ◌-◌, ◌≤◌, ◌<◌, ◌%◌, ◌/◌}
 use native.Mathlib.Numerals.{add-one}
@@ -15,6 +15,12 @@ use Rattle.import_places.specs.declared.Walk.{Walk}
 use Rattle.import_places.specs.declared.Step.{Step}
 use Rattle.import_places.specs.declared.Step.TheVariants.{On, Go, Result, NextCase, Lost}
 use Rattle.import_places.specs.Walking.{signs, two_to, popped, token_of, step_of}
+
+pub other_is_xor : (a b : Bool) → not (beq a b) ≡ xor a b
+other_is_xor true true = refl
+other_is_xor true false = refl
+other_is_xor false true = refl
+other_is_xor false false = refl
 
 abbrev pub from_walk : List ℕ → Walk → Place
 from_walk w s = find w s.depth s.value s.whole (signs s.mask s.count)
@@ -115,12 +121,6 @@ step_depth s k =
 
 pub on_depth : (s w : Walk) (k : ℕ) → On w ≡ step_of s k → w.depth ≤ s.depth + 1
 on_depth s w k e = subst (λ (t : Step). depth_after t ≤ s.depth + 1) (sym e) (step_depth s k)
-
--- "|" behind a part that holds
-pub token_bar : (s : Walk) (k : ℕ) → k ≡ 124 → s.value ≡ true → On (record { depth = 0; value = true; whole = true; mask = s.mask; count = s.count }) ≡ token_of s k
-unfolding token_of
-token_bar s k e v =
-    sym (ap (token_of s) e ∙ ap (λ (b : Bool). if b (On (record { depth = 0; value = true; whole = true; mask = s.mask; count = s.count })) Go) v)
 
 -- ---- signs
 

@@ -17,6 +17,7 @@ pub struct Walk {
     pub count: u32,
 }
 
+// No `ControlFlow`: the ways to end are told apart beside going on, in one `match`.
 #[derive(Clone, Copy)]
 pub enum Step {
     On(Walk),
@@ -26,7 +27,8 @@ pub enum Step {
     Lost,
 }
 
-// What stands at an offset: a condition with the brackets around it, a result, a result to be passed over, or nothing.
+// What stands at an offset: a condition with the brackets around it, a result, a result to be passed over, or nothing. No `Option`:
+// all four are taken apart in one `match`.
 #[derive(Clone, Copy)]
 pub enum Next {
     Go(usize, u64, u32),
@@ -35,27 +37,17 @@ pub enum Next {
     Lost,
 }
 
-fn turned(turn: bool, value: bool) -> bool
-    ensures { result ≡ Rattle.import_found.specs.Places.xor turn value }
-{
-    if turn {
-        return if value { false } else { true };
-    }
-    value
-}
-
 // The innermost bracket is closed.
+#[tactic(auto, using(crate::proofs::Steps::other_is_xor), unfolding(crate::specs::Walking::popped))]
 fn pop(s: Walk) -> Step
     ensures { result ≡ popped s }
 {
     if s.count == 0 {
         return Step::Lost;
     }
-    let bit = s.mask % 2;
-    let value = turned(bit == 1, s.value);
     Step::On(Walk {
         depth: 0,
-        value,
+        value: (s.mask % 2 == 1) != s.value,
         whole: false,
         mask: s.mask / 2,
         count: s.count - 1,
@@ -63,69 +55,42 @@ fn pop(s: Walk) -> Step
 }
 
 // A byte outside brackets.
+#[tactic(auto, unfolding(crate::specs::Walking::token_of))]
 fn token(s: Walk, k: u8) -> Step
     ensures { result ≡ token_of s k }
 {
-    if k == 38 {
-        if s.value {
-            if s.whole {
-                return Step::On(s);
-            }
-            return Step::Go;
-        }
-        return Step::On(s);
+    match k {
+        b'&' if s.value && !s.whole => Step::Go,
+        b'|' if s.value => Step::On(Walk {
+            depth: 0,
+            whole: true,
+            ..s
+        }),
+        b'|' => Step::Go,
+        b':' if s.value => Step::Result,
+        b':' => Step::NextCase,
+        _ => Step::On(s),
     }
-    if k == 124 {
-        if s.value {
-            return Step::On(Walk {
-                depth: 0,
-                value: true,
-                whole: true,
-                mask: s.mask,
-                count: s.count,
-            });
-        }
-        return Step::Go;
-    }
-    if k == 58 {
-        return if s.value {
-            Step::Result
-        } else {
-            Step::NextCase
-        };
-    }
-    Step::On(s)
 }
 
+#[tactic(auto, unfolding(crate::specs::Walking::step_of))]
 fn advance(s: Walk, k: u8) -> Step
     requires { s.depth < 4294967296 }
     ensures { result ≡ step_of s k }
 {
-    if k == 40 {
-        return Step::On(Walk {
+    match k {
+        b'(' => Step::On(Walk {
             depth: s.depth + 1,
-            value: s.value,
-            whole: s.whole,
-            mask: s.mask,
-            count: s.count,
-        });
-    }
-    if k == 41 {
-        if s.depth == 0 {
-            return pop(s);
-        }
-        return Step::On(Walk {
+            ..s
+        }),
+        b')' if s.depth == 0 => pop(s),
+        b')' => Step::On(Walk {
             depth: s.depth - 1,
-            value: s.value,
-            whole: s.whole,
-            mask: s.mask,
-            count: s.count,
-        });
+            ..s
+        }),
+        _ if s.depth == 0 => token(s, k),
+        _ => Step::On(s),
     }
-    if s.depth == 0 {
-        return token(s, k);
-    }
-    Step::On(s)
 }
 
 pub fn find(text: &[u8], from: usize, value: bool, mask: u64, count: u32) -> Next
@@ -139,26 +104,13 @@ pub fn find(text: &[u8], from: usize, value: bool, mask: u64, count: u32) -> Nex
         mask,
         count,
     };
-    let mut i = from;
-    while i < text.len() {
-        let t = advance(s, text[i]);
-        i += 1;
-        match t {
-            Step::On(w) => {
-                s = w;
-            }
-            Step::Go => {
-                return Next::Go(i, s.mask, s.count);
-            }
-            Step::Result => {
-                return Next::Result(i);
-            }
-            Step::NextCase => {
-                return Next::NextCase(i);
-            }
-            Step::Lost => {
-                return Next::Lost;
-            }
+    for i in from..text.len() {
+        match advance(s, text[i]) {
+            Step::On(w) => s = w,
+            Step::Go => return Next::Go(i + 1, s.mask, s.count),
+            Step::Result => return Next::Result(i + 1),
+            Step::NextCase => return Next::NextCase(i + 1),
+            Step::Lost => return Next::Lost,
         }
     }
     Next::Lost

@@ -12,8 +12,7 @@ use Rattle.import_grammar.specs.Reader.{Machine, step, begin, finish, Reading, r
 use Rattle.import_grammar.specs.laws.Viable.{scan, concluded, alive, stops}
 use Rattle.import_grammar.specs.laws.Viable.{Outcome as Meant}
 use Rattle.import_state.specs.declared.State.{State}
-use Rattle.import_scan.specs.declared.Scanned.{Scanned}
-use Rattle.import_scan.specs.declared.Scanned.TheVariants.{Fine, Stops}
+use Rattle.std.specs.Prelude.{Result, Ok, Err}
 use Rattle.import_scan.specs.Answer.{answer}
 use Rattle.import_scan.specs.Shown.{shown}
 use Rattle.import_scan.proofs.laws.Agree.{sim, over_alive, finished_reads, has_reading}
@@ -66,19 +65,21 @@ module _ (w : List ℕ) (s : State) (i : ℕ) (a : At w s i) (h : i < length w) 
         within = omega arith;
       }
 
-  pub stopped : is_over t ≡ true → Stops i ≡ answer (scan begin w 0)
+  pub stopped : is_over t ≡ true → Err i ≡ answer (scan begin w 0)
   unfolding scan answer
   stopped f =
       let l : alive (step a.machine (get_or w i 0)) ≡ false = not-true _ (lives ∙ f) in
       ap answer (sym (ap (λ (b : Bool). elim b as (λ _. Meant) [ true ↦ scan (step a.machine (get_or w i 0)) (drop (suc i) w) (suc i) | false ↦ stops i ]) l) ∙ one_byte)
 
-concluded_as : (r : Reading) (i : ℕ) (b : Bool) → has_reading r ≡ b → answer (concluded r i) ≡ elim b [ true ↦ Fine | false ↦ Stops i ]
+concluded_as : (r : Reading) (i : ℕ) (b : Bool) → has_reading r ≡ b → answer (concluded r i) ≡ elim b [ true ↦ Ok tt | false ↦ Err i ]
 unfolding answer concluded
-concluded_as (read t) i b e = ap (λ (x : Bool). elim x as (λ _. Scanned) [ true ↦ Fine | false ↦ Stops i ]) e
-concluded_as unfinished i b e = ap (λ (x : Bool). elim x as (λ _. Scanned) [ true ↦ Fine | false ↦ Stops i ]) e
+concluded_as (read t) i b e = ap (λ (x : Bool). elim x as (λ _. Result (Unit {0}) ℕ) [ true ↦ Ok tt | false ↦ Err i ]) e
+concluded_as unfinished i b e = ap (λ (x : Bool). elim x as (λ _. Result (Unit {0}) ℕ) [ true ↦ Ok tt | false ↦ Err i ]) e
 
-pub ended : (w : List ℕ) (s : State) (i : ℕ) → At w s i → length w ≤ i → (b : Bool) → is_finished s ≡ b → answer (scan begin w 0) ≡ elim b [ true ↦ Fine | false ↦ Stops i ]
+pub ended : (w : List ℕ) (s : State) (i : ℕ) → At w s i → length w ≤ i → (b : Bool) → is_finished s ≡ b → answer (scan begin w 0) ≡ elim b [ true ↦ Ok tt | false ↦ Err (length w) ]
 unfolding scan
 ended w s i a h b e =
+    let q : i ≡ length w = omega (arith, a.within, h) in
     ap answer (sym a.rest ∙ ap (λ (v : List ℕ). scan a.machine v i) (drop_of_length-le w h))
     ∙ concluded_as (finish a.machine) i b (sym (finished_reads a.machine) ∙ ap is_finished (sym a.is) ∙ e)
+    ∙ ap (λ (j : ℕ). elim b as (λ _. Result (Unit {0}) ℕ) [ true ↦ Ok tt | false ↦ Err j ]) q

@@ -3,16 +3,15 @@ use Rattle.std.specs.Prelude.{◌≡◌, ◌↔◌, List, ℕ}
 use Rattle.import_grammar.specs.Grammar.{InGrammar}
 use Rattle.import_grammar.specs.Reader.{begin}
 use Rattle.import_grammar.specs.laws.Viable.{Stopped, scan}
-use Rattle.import_scan.specs.declared.Scanned.{Scanned}
-use Rattle.import_scan.specs.declared.Scanned.TheVariants.{Fine, Stops}
+use Rattle.std.specs.Prelude.{Result, Ok, Err}
 use Rattle.import_scan.specs.Answer.{answer}
 
-pub data ScanRow (w : List ℕ) : Scanned → Type 0 where
+pub data ScanRow (w : List ℕ) : Result (Unit {0}) ℕ → Type 0 where
   -- a "text of the grammar"
-  inside : InGrammar w → ScanRow w Fine
+  inside : InGrammar w → ScanRow w (Ok tt)
   -- "the first byte that no text of the grammar can have there (or the length, if it only ends early)"
-  outside : {i : ℕ} → Stopped w i → ScanRow w (Stops i)
+  outside : {i : ℕ} → Stopped w i → ScanRow w (Err i)
 
 -- every answer is one row, and a row is the answer
 abbrev pub ScanRows : Type 0
-ScanRows = (w : List ℕ) (r : Scanned) → ScanRow w r ↔ (answer (scan begin w 0) ≡ r)
+ScanRows = (w : List ℕ) (r : Result (Unit {0}) ℕ) → ScanRow w r ↔ (answer (scan begin w 0) ≡ r)

@@ -10,29 +10,16 @@ ghost use Rattle.import_scan.specs.Answer.{answer};
 use import_state::{Place, State};
 use import_step::{finished, next, over};
 
-// A text of the grammar, or where it stops.
-#[derive(Clone, Copy)]
-pub enum Scanned {
-    Fine,
-    Stops(usize),
-}
-
-pub fn scan(text: &[u8]) -> Scanned
+// Where a text outside the grammar stops.
+pub fn scan(text: &[u8]) -> Result<(), usize>
     ensures { result ≡ answer (outcome begin text.now 0) }
 {
     let mut s = State::At(Place::Outset);
-    let mut i: usize = 0;
-    while i < text.len() {
-        let t = next(s, text[i]);
-        if over(t) {
-            return Scanned::Stops(i);
+    for i in 0..text.len() {
+        s = next(s, text[i]);
+        if over(s) {
+            return Err(i);
         }
-        s = t;
-        i += 1;
     }
-    if finished(s) {
-        Scanned::Fine
-    } else {
-        Scanned::Stops(i)
-    }
+    if finished(s) { Ok(()) } else { Err(text.len()) }
 }

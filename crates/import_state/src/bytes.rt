@@ -2,78 +2,43 @@
 ghost use Rattle.std.specs.Prelude.{◌≡◌};
 ghost use Rattle.import_state.specs.Bytes.{digit, blank, four, eight, plain, letter as letter-of, forbidden_letter as forbidden-letter-of};
 
+#[tactic(auto, unfolding(crate::specs::Bytes::digit))]
 pub fn is_digit(k: u8) -> bool
     ensures { result ≡ digit k }
 {
-    match k {
-        b'0' => true,
-        b'1' => true,
-        b'2' => true,
-        b'3' => true,
-        b'4' => true,
-        b'5' => true,
-        b'6' => true,
-        b'7' => true,
-        b'8' => true,
-        b'9' => true,
-        _ => false,
-    }
+    k.is_ascii_digit()
 }
 
 // "White space (20, 09, 0A, 0D)".
+#[tactic(auto, unfolding(crate::specs::Bytes::blank))]
 pub fn is_blank(k: u8) -> bool
     ensures { result ≡ blank k }
 {
-    match k {
-        0x20 => true,
-        0x09 => true,
-        0x0a => true,
-        0x0d => true,
-        _ => false,
-    }
+    matches!(k, b' ' | b'\t' | b'\n' | b'\r')
 }
 
 // The index of a condition.
+#[tactic(auto, unfolding(crate::specs::Bytes::four))]
 pub fn is_four(k: u8) -> bool
     ensures { result ≡ four k }
 {
-    match k {
-        b'1' => true,
-        b'2' => true,
-        b'3' => true,
-        b'4' => true,
-        _ => false,
-    }
+    matches!(k, b'1'..=b'4')
 }
 
 // The index of a level.
+#[tactic(auto, unfolding(crate::specs::Bytes::eight))]
 pub fn is_eight(k: u8) -> bool
     ensures { result ≡ eight k }
 {
-    match k {
-        b'1' => true,
-        b'2' => true,
-        b'3' => true,
-        b'4' => true,
-        b'5' => true,
-        b'6' => true,
-        b'7' => true,
-        b'8' => true,
-        _ => false,
-    }
+    matches!(k, b'1'..=b'8')
 }
 
 // A character of a name but the quotation mark.
+#[tactic(auto, unfolding(crate::specs::Bytes::plain))]
 pub fn is_plain(k: u8) -> bool
     ensures { result ≡ plain k }
 {
-    if k == b'"' {
-        return false;
-    }
-    if 0x20 <= k {
-        return k <= 0x7e;
-    }
-    false
+    k != b'"' && matches!(k, b' '..=b'~')
 }
 
 // Where a word stands after its first letter.
@@ -94,6 +59,7 @@ pub const ELSE: u8 = 22;
 pub const FORBIDDEN: u8 = 8;
 
 // The letters of words, each word backwards and without its first (next and name: without two).
+#[tactic(auto, unfolding(crate::specs::Bytes::letter))]
 pub fn letter(n: u8) -> u8
     ensures { result ≡ letter-of n }
 {
@@ -124,6 +90,7 @@ pub fn letter(n: u8) -> u8
 }
 
 // The letters of forbidden, backwards and without its first.
+#[tactic(auto, unfolding(crate::specs::Bytes::forbidden_letter))]
 pub fn forbidden_letter(n: u8) -> u8
     ensures { result ≡ forbidden-letter-of n }
 {

@@ -7,139 +7,120 @@ ghost use Rattle.import_state.specs.Sums.{end_const as end-const-of};
 use super::bytes::is_digit;
 use super::{DEEPEST, NO_LEVEL, Place, Side, State, Sum, Token};
 
-// A sum where nothing of it has been read.
-pub fn begun(side: Side, room: u8, hard: u8) -> Sum
-    ensures { result ≡ begun-of side room hard }
-{
-    Sum {
-        side,
-        room,
-        hard,
-        top: room,
-        level: NO_LEVEL,
-        vary: false,
-    }
-}
-
-// Inside a bracket, or outside again.
-pub fn roomed(s: Sum, room: u8) -> Sum
-    ensures { result ≡ roomed-of s room }
-{
-    let side = s.side;
-    Sum {
-        side,
-        room,
-        hard: s.hard,
-        top: s.top,
-        level: s.level,
-        vary: s.vary,
-    }
-}
-
-// Behind a level.
-pub fn levelled(s: Sum) -> Sum
-    ensures { result ≡ levelled-of s }
-{
-    let side = s.side;
-    Sum {
-        side,
-        room: s.room,
-        hard: s.hard,
-        top: s.top,
-        level: s.room,
-        vary: true,
-    }
-}
-
-// Inside a bracket that may have no level: behind a term with one.
-pub fn bound(s: Sum) -> bool
-    ensures { result ≡ bound_of s }
-{
-    if s.vary { s.room < s.level } else { false }
-}
-
-// Behind + or −.
-pub fn next_term(s: Sum) -> Sum
-    ensures { result ≡ next-term-of s }
-{
-    let vary = bound(s);
-    let side = s.side;
-    Sum {
-        side,
-        room: s.room,
-        hard: s.hard,
-        top: s.top,
-        level: s.level,
-        vary,
-    }
-}
-
-fn shut(s: Sum, room: u8, top: u8, level: u8, vary: bool) -> Sum
-    ensures { result ≡ shut-of s room top level vary }
-{
-    let side = s.side;
-    Sum {
-        side,
-        room,
-        hard: s.hard,
-        top,
-        level,
-        vary,
-    }
-}
-
-// Behind a bracket of a sum, with a level or without.
-pub fn closed(s: Sum, room: u8, top: u8) -> Sum
-    ensures { result ≡ Closed-of s room top }
-{
-    if s.room < s.level {
-        shut(s, room, top, s.level, false)
-    } else {
-        shut(s, room, top, room, true)
-    }
-}
-
-fn open_sum(s: Sum) -> State
-    ensures { result ≡ open-sum-of s }
-{
-    if 0 < s.room {
-        State::At(Place::Factor(roomed(s, s.room - 1), true))
-    } else {
-        State::Dead
-    }
-}
-
-// A factor is expected.
-pub fn on_factor(s: Sum, start: bool, k: u8) -> State
-    ensures { result ≡ on-factor-of s start k }
-{
-    if is_digit(k) {
-        return State::At(Place::After(s, true));
-    }
-    match k {
-        b'L' => if s.vary {
-            State::Dead
-        } else {
-            State::In(Token::Level(s))
-        },
-        b'(' => open_sum(s),
-        b'-' => if start {
-            State::At(Place::Factor(s, false))
-        } else {
-            State::Dead
-        },
-        _ => State::Dead,
-    }
-}
-
-// After a term of a bracket that may have no level.
-pub fn end_const(s: Sum, k: u8) -> State
-    ensures { result ≡ end-const-of s k }
-{
-    if k == b')' {
-        if s.room < s.level {
-            return State::At(Place::After(roomed(s, s.room + 1), false));
+impl Sum {
+    // A sum where nothing of it has been read.
+    #[tactic(auto, unfolding(crate::specs::Sums::begun))]
+    pub fn begun(side: Side, room: u8, hard: u8) -> Sum
+        ensures { result ≡ begun-of side room hard }
+    {
+        Sum {
+            side,
+            room,
+            hard,
+            top: room,
+            level: NO_LEVEL,
+            vary: false,
         }
     }
-    State::Dead
+
+    // Inside a bracket, or outside again.
+    #[tactic(auto, unfolding(crate::specs::Sums::roomed))]
+    pub fn roomed(self, room: u8) -> Sum
+        ensures { result ≡ roomed-of self room }
+    {
+        Sum { room, ..self }
+    }
+
+    // Behind a level.
+    #[tactic(auto, unfolding(crate::specs::Sums::levelled))]
+    pub fn levelled(self) -> Sum
+        ensures { result ≡ levelled-of self }
+    {
+        Sum {
+            level: self.room,
+            vary: true,
+            ..self
+        }
+    }
+
+    // Inside a bracket that may have no level: behind a term with one.
+    #[tactic(auto, unfolding(crate::specs::Sums::bound))]
+    pub fn bound(self) -> bool
+        ensures { result ≡ bound_of self }
+    {
+        self.vary && self.room < self.level
+    }
+
+    // Behind + or −.
+    #[tactic(auto, unfolding(crate::specs::Sums::next_term))]
+    pub fn next_term(self) -> Sum
+        ensures { result ≡ next-term-of self }
+    {
+        Sum {
+            vary: self.bound(),
+            ..self
+        }
+    }
+
+    #[tactic(auto, unfolding(crate::specs::Sums::shut))]
+    fn shut(self, room: u8, top: u8, level: u8, vary: bool) -> Sum
+        ensures { result ≡ shut-of self room top level vary }
+    {
+        Sum {
+            room,
+            top,
+            level,
+            vary,
+            ..self
+        }
+    }
+
+    // Behind a bracket of a sum, with a level or without.
+    #[tactic(auto, unfolding(crate::specs::Sums::closed))]
+    pub fn closed(self, room: u8, top: u8) -> Sum
+        ensures { result ≡ Closed-of self room top }
+    {
+        if self.room < self.level {
+            self.shut(room, top, self.level, false)
+        } else {
+            self.shut(room, top, room, true)
+        }
+    }
+
+    #[tactic(auto, unfolding(crate::specs::Sums::open_sum))]
+    fn open_sum(self) -> State
+        ensures { result ≡ open-sum-of self }
+    {
+        if 0 < self.room {
+            State::At(Place::Factor(self.roomed(self.room - 1), true))
+        } else {
+            State::Dead
+        }
+    }
+
+    // A factor is expected.
+    #[tactic(auto, unfolding(crate::specs::Sums::on_factor))]
+    pub fn on_factor(self, start: bool, k: u8) -> State
+        ensures { result ≡ on-factor-of self start k }
+    {
+        match k {
+            _ if is_digit(k) => State::At(Place::After(self, true)),
+            b'L' if !self.vary => State::In(Token::Level(self)),
+            b'(' => self.open_sum(),
+            b'-' if start => State::At(Place::Factor(self, false)),
+            _ => State::Dead,
+        }
+    }
+
+    // After a term of a bracket that may have no level.
+    #[tactic(auto, unfolding(crate::specs::Sums::end_const))]
+    pub fn end_const(self, k: u8) -> State
+        ensures { result ≡ end-const-of self k }
+    {
+        if k == b')' && self.room < self.level {
+            State::At(Place::After(self.roomed(self.room + 1), false))
+        } else {
+            State::Dead
+        }
+    }
 }

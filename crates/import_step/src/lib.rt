@@ -11,35 +11,25 @@ use import_items::{
     on_forbidden, on_given, on_name, on_next_or_name, on_quoted, on_set, on_site, on_word,
 };
 use import_state::bytes::{SITE, is_blank, is_digit, is_eight, is_four};
-use import_state::sums::{levelled, on_factor};
 use import_state::{DEEPEST, Place, Setting, Side, State, Sum, Token};
 
 // White space: a token that might go on is over.
+#[tactic(auto, unfolding(crate::specs::Steps::spaced))]
 fn spaced(p: Place) -> Place
     ensures { result ≡ spaced-of p }
 {
     match p {
-        Place::Outset => Place::Outset,
-        Place::Site(of) => Place::Site(of),
-        Place::Equals(of) => Place::Equals(of),
-        Place::Value(of) => Place::Value(of),
         Place::Set(of, _) => Place::Set(of, false),
-        Place::Action(kind) => Place::Action(kind),
         Place::Given(kind, _) => Place::Given(kind, false),
-        Place::Opener => Place::Opener,
         Place::Quoted(room, _) => Place::Quoted(room, false),
-        Place::Atom(room, hard, first) => Place::Atom(room, hard, first),
-        Place::Factor(s, start) => Place::Factor(s, start),
         Place::After(s, _) => Place::After(s, false),
         Place::Compared(room, _) => Place::Compared(room, false),
-        Place::Held(room) => Place::Held(room),
-        Place::Otherwise => Place::Otherwise,
-        Place::Result(side) => Place::Result(side),
-        Place::Forbade(side) => Place::Forbade(side),
+        other => other,
     }
 }
 
 // A place where one byte alone may stand.
+#[tactic(auto, unfolding(crate::specs::Steps::only))]
 fn only(k: u8, byte: u8, then: State) -> State
     ensures { result ≡ Only-of k byte then }
 {
@@ -47,6 +37,7 @@ fn only(k: u8, byte: u8, then: State) -> State
 }
 
 // A byte that is not white space.
+#[tactic(auto, unfolding(crate::specs::Steps::on_place))]
 fn on_place(p: Place, k: u8) -> State
     ensures { result ≡ on-place-of p k }
 {
@@ -54,22 +45,16 @@ fn on_place(p: Place, k: u8) -> State
         Place::Outset => only(k, b's', State::In(Token::Word(SITE))),
         Place::Site(of) => on_site(of, k),
         Place::Equals(of) => only(k, b'=', State::At(Place::Value(of))),
-        Place::Value(of) => if is_digit(k) {
-            State::At(Place::Set(of, true))
-        } else {
-            State::Dead
-        },
+        Place::Value(of) if is_digit(k) => State::At(Place::Set(of, true)),
+        Place::Value(_) => State::Dead,
         Place::Set(of, more) => on_set(of, more, k),
-        Place::Action(kind) => if is_digit(k) {
-            State::At(Place::Given(kind, true))
-        } else {
-            State::Dead
-        },
+        Place::Action(kind) if is_digit(k) => State::At(Place::Given(kind, true)),
+        Place::Action(_) => State::Dead,
         Place::Given(kind, more) => on_given(kind, more, k),
         Place::Opener => only(k, b'=', State::At(Place::Atom(DEEPEST, DEEPEST, true))),
         Place::Quoted(room, more) => on_quoted(room, more, k),
         Place::Atom(room, hard, first) => on_atom(room, hard, first, k),
-        Place::Factor(s, start) => on_factor(s, start, k),
+        Place::Factor(s, start) => s.on_factor(start, k),
         Place::After(s, more) => on_after(s, more, k),
         Place::Compared(room, more) => on_compared(room, more, k),
         Place::Held(room) => joined(room, k),
@@ -80,6 +65,7 @@ fn on_place(p: Place, k: u8) -> State
 }
 
 // Inside a token white space is a byte like any other.
+#[tactic(auto, unfolding(crate::specs::Steps::on_token))]
 fn on_token(t: Token, k: u8) -> State
     ensures { result ≡ on-token-of t k }
 {
@@ -88,119 +74,76 @@ fn on_token(t: Token, k: u8) -> State
         Token::NextOrName => on_next_or_name(k),
         Token::Forbidden(side, n) => on_forbidden(side, n, k),
         Token::Name(room) => on_name(room, k),
-        Token::Chance => if is_four(k) {
-            State::At(Place::Opener)
-        } else {
-            State::Dead
-        },
-        Token::Next => if is_eight(k) {
-            State::At(Place::Opener)
-        } else {
-            State::Dead
-        },
-        Token::Condition(room) => if is_four(k) {
-            State::At(Place::Held(room))
-        } else {
-            State::Dead
-        },
-        Token::Level(s) => if is_eight(k) {
-            State::At(Place::After(levelled(s), false))
-        } else {
-            State::Dead
-        },
+        Token::Chance if is_four(k) => State::At(Place::Opener),
+        Token::Next if is_eight(k) => State::At(Place::Opener),
+        Token::Condition(room) if is_four(k) => State::At(Place::Held(room)),
+        Token::Level(s) if is_eight(k) => State::At(Place::After(s.levelled(), false)),
+        _ => State::Dead,
     }
 }
 
+#[tactic(auto, unfolding(crate::specs::Steps::next))]
 pub fn next(s: State, k: u8) -> State
     ensures { result ≡ next_of s k }
 {
     match s {
         State::Dead => State::Dead,
-        State::At(p) => if is_blank(k) {
-            State::At(spaced(p))
-        } else {
-            on_place(p, k)
-        },
+        State::At(p) if is_blank(k) => State::At(spaced(p)),
+        State::At(p) => on_place(p, k),
         State::In(t) => on_token(t, k),
     }
 }
 
 // No text of the grammar begins so.
+#[tactic(auto, unfolding(crate::specs::Steps::is_over))]
 pub fn over(s: State) -> bool
     ensures { result ≡ is_over s }
 {
-    match s {
-        State::Dead => true,
-        State::At(_) => false,
-        State::In(_) => false,
-    }
+    matches!(s, State::Dead)
 }
 
+#[tactic(auto, unfolding(crate::specs::Steps::last_side))]
 fn last_side(side: Side) -> bool
     ensures { result ≡ last-side-of side }
 {
-    match side {
-        Side::Left => false,
-        Side::Right => false,
-        Side::Case => false,
-        Side::Last => true,
-    }
+    matches!(side, Side::Last)
 }
 
+#[tactic(auto, unfolding(crate::specs::Steps::last_setting))]
 fn last_setting(of: Setting) -> bool
     ensures { result ≡ last-setting-of of }
 {
-    match of {
-        Setting::Levels => false,
-        Setting::Conditions => false,
-        Setting::Actions => false,
-        Setting::Weights => true,
-    }
+    matches!(of, Setting::Weights)
 }
 
 // The else's result, with no bracket open.
+#[tactic(auto, unfolding(crate::specs::Steps::after_ends))]
 fn after_ends(s: Sum) -> bool
     ensures { result ≡ after-ends-of s }
 {
-    let side = s.side;
-    if last_side(side) {
-        s.room == DEEPEST
-    } else {
-        false
-    }
+    last_side(s.side) && s.room == DEEPEST
 }
 
 // Whether a text may end here: behind the site or an item.
+#[tactic(auto, unfolding(crate::specs::Steps::place_ends))]
 fn place_ends(p: Place) -> bool
     ensures { result ≡ place-ends-of p }
 {
     match p {
-        Place::Outset => false,
-        Place::Site(_) => false,
-        Place::Equals(_) => false,
-        Place::Value(_) => false,
         Place::Set(of, _) => last_setting(of),
-        Place::Action(_) => false,
-        Place::Given(_, _) => false,
-        Place::Opener => false,
         Place::Quoted(_, _) => true,
-        Place::Atom(_, _, _) => false,
-        Place::Factor(_, _) => false,
         Place::After(s, _) => after_ends(s),
-        Place::Compared(_, _) => false,
-        Place::Held(_) => false,
-        Place::Otherwise => false,
-        Place::Result(_) => false,
         Place::Forbade(side) => last_side(side),
+        _ => false,
     }
 }
 
+#[tactic(auto, unfolding(crate::specs::Steps::is_finished))]
 pub fn finished(s: State) -> bool
     ensures { result ≡ is_finished s }
 {
     match s {
-        State::Dead => false,
         State::At(p) => place_ends(p),
-        State::In(_) => false,
+        State::Dead | State::In(_) => false,
     }
 }

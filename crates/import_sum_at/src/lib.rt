@@ -9,7 +9,8 @@ use import_linears::all_fit;
 use import_sums::{DEEPEST, walk};
 use whole::NUMBERS;
 
-// A sum's linear and the place behind it, or that a number of it lies beyond 32 bits.
+// A sum's linear and the place behind it, or that a number of it lies beyond 32 bits. No `Result`: where a number is beyond, the
+// place is told too.
 #[derive(Clone, Copy)]
 pub struct Worked {
     pub linear: [i64; NUMBERS],
@@ -27,7 +28,7 @@ pub fn sum_at(text: &[u8], at: usize) -> Worked
     let s = r.frame;
     if s.beyond {
         return Worked {
-            linear: [0, 0, 0, 0, 0, 0, 0, 0, 0],
+            linear: [0; NUMBERS],
             next,
             beyond: true,
         };
@@ -35,7 +36,7 @@ pub fn sum_at(text: &[u8], at: usize) -> Worked
     let c = closed(s);
     if c.beyond {
         return Worked {
-            linear: [0, 0, 0, 0, 0, 0, 0, 0, 0],
+            linear: [0; NUMBERS],
             next,
             beyond: true,
         };

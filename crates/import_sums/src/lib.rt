@@ -22,50 +22,20 @@ pub struct Walked {
 fn of_sum(k: u8) -> bool
     ensures { result ≡ f.of_sum k }
 {
-    if is_blank(k) {
-        return true;
-    }
-    if is_digit(k) {
-        return true;
-    }
-    if k == 42 {
-        return true;
-    }
-    if k == 43 {
-        return true;
-    }
-    if k == 45 {
-        return true;
-    }
-    if k == 76 {
-        return true;
-    }
-    k == 40
+    is_blank(k) || is_digit(k) || matches!(k, b'*' | b'+' | b'-' | b'L' | b'(')
 }
 
 // A ")", or where only a sum is asked for what is no byte of one.
 fn stops(only: bool, s: Frame, k: u8) -> bool
     ensures { result ≡ f.stops only s k }
 {
-    if s.mode == NAME {
-        return false;
-    }
-    if k == 41 {
-        return true;
-    }
-    if of_sum(k) {
-        return false;
-    }
-    only
+    s.mode != NAME && (k == b')' || only && !of_sum(k))
 }
 
 fn opens(s: Frame, k: u8) -> bool
     ensures { result ≡ f.opens s k }
 {
-    if s.mode == NAME {
-        return false;
-    }
-    k == 40
+    s.mode != NAME && k == b'('
 }
 
 // ")" behind a bracket in o.
@@ -73,21 +43,14 @@ fn closing(text: &[u8], o: Frame, only: bool, inner: Walked) -> Walked
     requires { SoundFrame o × (SoundFrame inner.frame × ((inner.next ≤ length text.now) × (resting only inner.frame (drop inner.next text.now) ≡ true))) }
     ensures { Closes text.now o only inner result }
 {
-    let c = inner.frame;
     let n = inner.next;
-    if c.beyond {
+    if inner.frame.beyond {
         return inner;
     }
-    if n < text.len() {
-        if text[n] == 41 {
-            return Walked {
-                frame: popped(o, c),
-                next: n + 1,
-            };
-        }
+    if n < text.len() && text[n] == b')' {
         return Walked {
-            frame: over(),
-            next: n,
+            frame: popped(o, inner.frame),
+            next: n + 1,
         };
     }
     Walked {
@@ -103,6 +66,7 @@ pub fn walk(text: &[u8], at: usize, depth: usize, only: bool) -> Walked
 {
     let mut s = idle(START);
     let mut i = at;
+    // No `for`: a bracket is passed over as one, so the place leaps to where the call ends.
     while i < text.len() {
         let k = text[i];
         if s.beyond {
@@ -119,8 +83,7 @@ pub fn walk(text: &[u8], at: usize, depth: usize, only: bool) -> Walked
                 };
             }
             let r = closing(text, s, only, walk(text, i + 1, depth - 1, only));
-            let frame = r.frame;
-            s = frame;
+            s = r.frame;
             i = r.next;
         } else {
             s = step(s, k);

@@ -2,16 +2,16 @@
 use mathlib.Core.Path.{◌≡◌, refl, sym, ap, ◌∙◌, subst}
 use mathlib.Core.Bool.{Bool, true, false}
 use mathlib.Core.List.{List, [], ◌∷◌}
-use Prim.Native.Nat.{ℕ, zero, suc, ◌+◌, ◌*◌, ◌-◌, ◌≤◌, ◌<◌}
+use Prim.Native.Nat.{ℕ, zero, suc, ◌+◌, ◌*◌, ◌-◌, ◌≤◌, ◌<◌, min}
 use native.Mathlib.Numerals.{add-one}
 use native.Mathlib.Omega.{arith}
-use lib.Dec.{eqb}
+use lib.Dec.{eqb, leb, leb→le, nleb→lt}
 use lib.ListN.{length, get_or, drop, drop_of_length-le}
 use lib.Seq.{drop-cons, drop-drop}
 use borrow.Author.Tests.{ne_eqb, eq-eqb}
-use Rattle.whole.specs.Cases.{if}
+use Rattle.whole.specs.Cases.{if, by_test}
 use Rattle.import_model.specs.Commands.{at_most}
-use Rattle.import_state.specs.Bytes.{blank, digit}
+use Rattle.import_state.specs.Bytes.{blank}
 use Rattle.import_parts.specs.Walk.{past, is_letter, next_letter, goes_on, grown, number_value, number_rest, spells, spelled, string_rest}
 use Rattle.import_parts.specs.laws.Meets.{small, great}
 use Rattle.import_walk.specs.declared.number.Number.{Number}
@@ -64,15 +64,11 @@ pub scan_here : (string : Bool) (text : List ℕ) (from : ℕ) (b : Bool) (i : �
     → Onward text from i (scan_rest string false (drop from text))
 scan_here string text from b i s h e = record { stands = record { within = s.within; rest = sym (at_byte string text b true i h e) ∙ s.rest }; on = s.on }
 
-pub scan_end : (string : Bool) (text : List ℕ) (from : ℕ) (b : Bool) (i : ℕ) → Scanning string text from b i → length text ≤ i → Onward text from i (scan_rest string false (drop from text))
+pub scan_end : (string : Bool) (text : List ℕ) (from : ℕ) (b : Bool) (i : ℕ) → Scanning string text from b i → length text ≤ i → Onward text from (length text) (scan_rest string false (drop from text))
 scan_end string text from b i s h = record {
-  stands = record { within = s.within; rest = drop_of_length-le text h ∙ sym (nothing string b) ∙ ap (scan_rest string b) (sym (drop_of_length-le text h)) ∙ s.rest };
-  on = s.on;
+  stands = record { within = omega arith; rest = drop_of_length-le text {i = length text} (omega arith) ∙ sym (nothing string b) ∙ ap (scan_rest string b) (sym (drop_of_length-le text h)) ∙ s.rest };
+  on = let a = s.on in let e = s.within in omega arith;
 }
-
-pub last_letter : (k : ℕ) → (k ≡ 114 → ⊥) → (k ≡ 99 → ⊥) → (k ≡ 110 → ⊥) → eqb k 101 ≡ is_letter k
-unfolding is_letter
-last_letter k a b c = sym (λ i. if (ne_eqb k 114 a i) true (if (ne_eqb k 99 b i) true (if (ne_eqb k 110 c i) true (eqb k 101))))
 
 -- ---- behind a byte
 
@@ -96,9 +92,12 @@ past_found c text from i p h e = record {
   on = let a = p.on in omega (arith, a);
 }
 
-pub past_end : (c : ℕ) (text : List ℕ) (from i : ℕ) → Passing c text from i → length text ≤ i → Onward text from i (past c (drop from text))
+pub past_end : (c : ℕ) (text : List ℕ) (from i : ℕ) → Passing c text from i → length text ≤ i → Onward text from (length text) (past c (drop from text))
 unfolding past
-past_end c text from i p h = record { stands = record { within = p.within; rest = drop_of_length-le text h ∙ ap (past c) (sym (drop_of_length-le text h)) ∙ p.rest }; on = p.on }
+past_end c text from i p h = record {
+  stands = record { within = omega arith; rest = drop_of_length-le text {i = length text} (omega arith) ∙ ap (past c) (sym (drop_of_length-le text h)) ∙ p.rest };
+  on = let a = p.on in let e = p.within in omega arith;
+}
 
 -- ---- numbers
 
@@ -110,19 +109,13 @@ grown_digit : (m v k d : ℕ) → blank k ≡ false → d ≡ k - 48 → at_most
 unfolding grown blank
 grown_digit m v k d e q = ap (λ (x : ℕ). at_most m (v * 10 + x)) q ∙ sym (ap (λ (b : Bool). if b v (at_most m (v * 10 + (k - 48)))) e)
 
-pub grown_over : (m v k d : ℕ) → blank k ≡ false → d ≡ k - 48 → m < v * 10 + d → m ≡ grown m v k
-grown_over m v k d e q h = sym (great m (v * 10 + d) (omega (arith, h))) ∙ grown_digit m v k d e q
+least_is : (m x : ℕ) → min m x ≡ at_most m x
+least_is m x = by_test (leb x m) (λ _. min m x ≡ at_most m x)
+    (λ t. let h = leb→le x m t in let q : min m x ≡ x = omega (arith, h) in q ∙ sym (small m x h))
+    (λ t. let h = nleb→lt x m t in let q : min m x ≡ m = omega (arith, h) in q ∙ sym (great m x (omega (arith, h))))
 
-pub grown_in : (m v k d : ℕ) → blank k ≡ false → d ≡ k - 48 → v * 10 + d ≤ m → v * 10 + d ≡ grown m v k
-grown_in m v k d e q h = sym (small m (v * 10 + d) h) ∙ grown_digit m v k d e q
-
-pub goes_blank : (k : ℕ) → blank k ≡ true → true ≡ goes_on k
-unfolding goes_on blank digit
-goes_blank k e = sym (ap (λ (b : Bool). if b true (digit k)) e)
-
-pub goes_digit : (k : ℕ) (b : Bool) → blank k ≡ false → b ≡ digit k → b ≡ goes_on k
-unfolding goes_on blank digit
-goes_digit k b e d = d ∙ sym (ap (λ (x : Bool). if x true (digit k)) e)
+pub grown_least : (m v k d : ℕ) {e r : ℕ} → blank k ≡ false → d ≡ k - 48 → e ≡ d → r ≡ min m (v * 10 + e) → r ≡ grown m v k
+grown_least m v k d {e} n q f g = g ∙ least_is m (v * 10 + e) ∙ grown_digit m v k e n (f ∙ q)
 
 pub record Counting (text : List ℕ) (from most v i : ℕ) : Type 0 where
   pub within : i ≤ length text
@@ -159,12 +152,15 @@ count_here text from most v i s h e r p q = record {
   next = subst (λ (j : ℕ). Onward text from j (number_rest (drop from text))) (sym q) (record { stands = record { within = s.within; rest = sym (rest_byte text i false h e) ∙ s.rest }; on = s.on });
 }
 
-pub count_end : (text : List ℕ) (from most v i : ℕ) → Counting text from most v i → length text ≤ i → (r : Number) → r.value ≡ v → r.next ≡ i → NumberAt text from most r
+pub count_end : (text : List ℕ) (from most v i : ℕ) → Counting text from most v i → length text ≤ i → (r : Number) → r.value ≡ v → r.next ≡ length text → NumberAt text from most r
 unfolding number_value number_rest
 count_end text from most v i s h r p q = record {
   value = p ∙ ap (number_value most v) (sym (drop_of_length-le text h)) ∙ s.value;
   next = subst (λ (j : ℕ). Onward text from j (number_rest (drop from text))) (sym q)
-      (record { stands = record { within = s.within; rest = drop_of_length-le text h ∙ ap number_rest (sym (drop_of_length-le text h)) ∙ s.rest }; on = s.on });
+      (record {
+        stands = record { within = omega arith; rest = drop_of_length-le text {i = length text} (omega arith) ∙ ap number_rest (sym (drop_of_length-le text h)) ∙ s.rest };
+        on = let a = s.on in let e = s.within in omega arith;
+      });
 }
 
 -- ---- the characters of a name

@@ -6,7 +6,7 @@ ghost use Rattle.import_walk.specs.Onward.{Onward};
 use crate::scan::{QUOTES, scan};
 use crate::steps::{ahead, next_letter};
 
-pub const SPACE: u8 = 32;
+pub const SPACE: u8 = b' ';
 
 // Behind the string whose characters begin here.
 fn string_end(text: &[u8], from: usize) -> usize
@@ -27,13 +27,11 @@ pub fn end_of_name(text: &[u8], at: usize) -> usize
 }
 
 // Whether a byte is a character: a second quotation mark is, and what is none while none stands before it.
+#[tactic(auto, unfolding(import_parts::specs::Walk::spells))]
 fn spells(quoted: bool, k: u8) -> bool
     ensures { result ≡ spells-of quoted k }
 {
-    if k == QUOTES {
-        return quoted;
-    }
-    if quoted { false } else { true }
+    if k == QUOTES { quoted } else { !quoted }
 }
 
 // Character j of the string whose characters begin here, a space behind its last.
@@ -43,10 +41,8 @@ fn character(text: &[u8], from: usize, j: usize) -> u8
 {
     let mut left = j;
     let mut quoted = false;
-    let mut i = from;
-    while i < text.len() {
+    for i in from..text.len() {
         let k = text[i];
-        i += 1;
         if spells(quoted, k) {
             if left == 0 {
                 return k;

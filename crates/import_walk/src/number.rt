@@ -12,22 +12,18 @@ pub struct Number {
     pub next: usize,
 }
 
+#[tactic(auto, unfolding(import_parts::specs::Walk::goes_on, import_state::specs::Bytes::blank, import_state::specs::Bytes::digit))]
 fn goes_on(k: u8) -> bool
     ensures { result ≡ goes-on-of k }
 {
-    if is_blank(k) {
-        return true;
-    }
-    is_digit(k)
+    is_blank(k) || is_digit(k)
 }
 
-fn digit_value(k: u8) -> u32
-    ensures { (result ≡ k - 48) × (result < 256) }
+// What a digit stands for.
+pub fn digit_value(k: u8) -> u8
+    ensures { result ≡ k - 48 }
 {
-    if k < b'0' {
-        return 0;
-    }
-    (k - b'0') as u32
+    k.saturating_sub(b'0')
 }
 
 // A number of one more byte.
@@ -38,8 +34,7 @@ fn grown(most: u32, value: u32, k: u8) -> u32
     if is_blank(k) {
         return value;
     }
-    let v = value * 10 + digit_value(k);
-    if most < v { most } else { v }
+    most.min(value * 10 + u32::from(digit_value(k)))
 }
 
 // The number that stands here, and the token behind it.
@@ -48,17 +43,17 @@ pub fn number_at(text: &[u8], from: usize, most: u32) -> Number
     ensures { NumberAt text.now from most result }
 {
     let mut value: u32 = 0;
-    let mut i = from;
-    while i < text.len() {
+    for i in from..text.len() {
         let k = text[i];
-        if goes_on(k) {
-            value = grown(most, value, k);
-            i += 1;
-        } else {
+        if !goes_on(k) {
             return Number { value, next: i };
         }
+        value = grown(most, value, k);
     }
-    Number { value, next: i }
+    Number {
+        value,
+        next: text.len(),
+    }
 }
 
 // The number behind the next "=".

@@ -1,10 +1,10 @@
 // An item's opening: the command that it becomes, with its operands.
-ghost use Rattle.std.specs.Prelude.{◌≡◌, ◌≤◌, ◌-◌, length, drop};
+ghost use Rattle.std.specs.Prelude.{◌≡◌, ◌≤◌, length, drop};
 ghost use Rattle.import_model.specs.Import.{text_most};
 ghost use Rattle.import_parts.specs.Walk.{word_of, index_in};
 ghost use Rattle.import_walk.specs.Answers.{OpeningAt, ActionAt, BehindAt, kind_by};
 
-use crate::number::{Number, number_at};
+use crate::number::{Number, digit_value, number_at};
 use crate::site::ACTION_MOST;
 use crate::steps::{ahead, byte_at, past};
 
@@ -26,37 +26,28 @@ pub struct Opening {
     pub next: usize,
 }
 
+#[tactic(auto, unfolding(crate::specs::Answers::kind_by))]
 fn kind_of(first: u8, second: u8) -> u8
     ensures { result ≡ kind_by first second }
 {
-    if first == b'r' {
-        return REWARD;
+    match first {
+        b'r' => REWARD,
+        b'c' => CHANCE,
+        b'e' => END,
+        _ if second == b'a' => NAME,
+        _ => LEVEL,
     }
-    if first == b'c' {
-        return CHANCE;
-    }
-    if first == b'e' {
-        return END;
-    }
-    if second == b'a' {
-        return NAME;
-    }
-    LEVEL
 }
 
+#[tactic(auto, unfolding(import_parts::specs::Walk::word_of))]
 fn word_len(kind: u8) -> usize
     ensures { (result ≡ word_of kind) × (1 ≤ result) }
 {
-    if kind == REWARD {
-        return 6;
+    match kind {
+        REWARD | CHANCE => 6,
+        END => 3,
+        _ => 4,
     }
-    if kind == CHANCE {
-        return 6;
-    }
-    if kind == END {
-        return 3;
-    }
-    4
 }
 
 // The action, and what stands behind it.
@@ -69,29 +60,16 @@ fn action_at(text: &[u8], at: usize, kind: u8) -> Number
     number_at(text, from, ACTION_MOST)
 }
 
-fn digit_value(k: u8) -> u8
-    ensures { result ≡ k - 48 }
-{
-    if k < b'0' {
-        return 0;
-    }
-    k - b'0'
-}
-
 // The digit behind N or L.
 fn index_at(text: &[u8], at: usize, kind: u8) -> u8
     requires { (at ≤ length text.now) × (length text.now ≤ text_most) }
     ensures { result ≡ index_in kind (drop at text.now) }
 {
-    let k = byte_at(text, at + 1);
-    let d = digit_value(k);
-    if kind == CHANCE {
-        return d;
+    if kind == CHANCE || kind == LEVEL {
+        digit_value(byte_at(text, at + 1))
+    } else {
+        0
     }
-    if kind == LEVEL {
-        return d;
-    }
-    0
 }
 
 // From an item's first letter.

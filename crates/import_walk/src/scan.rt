@@ -4,61 +4,42 @@ ghost use Rattle.import_parts.specs.Walk.{is_letter, begins as begins-of, inside
 ghost use Rattle.import_walk.specs.Onward.{Onward};
 ghost use Rattle.import_walk.specs.Scans.{stops as stops-of, turned as turned-of, scan_rest};
 
-pub const QUOTES: u8 = 34;
+pub const QUOTES: u8 = b'"';
 
+#[tactic(auto, unfolding(import_parts::specs::Walk::is_letter))]
 fn letter(k: u8) -> bool
     ensures { result ≡ is_letter k }
 {
-    if k == b'r' {
-        return true;
-    }
-    if k == b'c' {
-        return true;
-    }
-    if k == b'n' {
-        return true;
-    }
-    k == b'e'
+    matches!(k, b'r' | b'c' | b'n' | b'e')
 }
 
 // "forbidden" has letters that begin items.
+#[tactic(auto, unfolding(import_parts::specs::Walk::begins))]
 fn begins(inside: bool, k: u8) -> bool
     ensures { result ≡ begins-of inside k }
 {
-    if inside {
-        return false;
-    }
-    letter(k)
+    !inside && letter(k)
 }
 
+#[tactic(auto, unfolding(import_parts::specs::Walk::inside_after))]
 fn inside_after(inside: bool, k: u8) -> bool
     ensures { result ≡ inside-after-of inside k }
 {
-    if inside {
-        if k == b'n' {
-            return false;
-        }
-        return true;
-    }
-    k == b'f'
+    if inside { k != b'n' } else { k == b'f' }
 }
 
+#[tactic(auto, unfolding(import_parts::specs::Walk::behind_string))]
 fn behind_string(quoted: bool, k: u8) -> bool
     ensures { result ≡ behind-string-of quoted k }
 {
-    if k == QUOTES {
-        return false;
-    }
-    quoted
+    quoted && k != QUOTES
 }
 
+#[tactic(auto, unfolding(import_parts::specs::Walk::quoted_after))]
 fn quoted_after(quoted: bool, k: u8) -> bool
     ensures { result ≡ quoted-after-of quoted k }
 {
-    if k == QUOTES {
-        return if quoted { false } else { true };
-    }
-    false
+    k == QUOTES && !quoted
 }
 
 // Whether a byte ends the scan.
@@ -66,18 +47,20 @@ fn stops(string: bool, inside: bool, k: u8) -> bool
     ensures { result ≡ stops-of string inside k }
 {
     if string {
-        return behind_string(inside, k);
+        behind_string(inside, k)
+    } else {
+        begins(inside, k)
     }
-    begins(inside, k)
 }
 
 fn turned(string: bool, inside: bool, k: u8) -> bool
     ensures { result ≡ turned-of string inside k }
 {
     if string {
-        return quoted_after(inside, k);
+        quoted_after(inside, k)
+    } else {
+        inside_after(inside, k)
     }
-    inside_after(inside, k)
 }
 
 // The byte that ends the scan, or the end.
@@ -86,14 +69,11 @@ pub fn scan(text: &[u8], from: usize, string: bool) -> usize
     ensures { Onward text.now from result (scan_rest string false (drop from text.now)) }
 {
     let mut inside = false;
-    let mut i = from;
-    while i < text.len() {
-        let k = text[i];
-        if stops(string, inside, k) {
+    for i in from..text.len() {
+        if stops(string, inside, text[i]) {
             return i;
         }
-        inside = turned(string, inside, k);
-        i += 1;
+        inside = turned(string, inside, text[i]);
     }
-    i
+    text.len()
 }

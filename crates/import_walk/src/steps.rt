@@ -26,15 +26,12 @@ pub fn past(text: &[u8], from: usize, c: u8) -> usize
     requires { from ≤ length text.now }
     ensures { Onward text.now from result (past_of c (drop from text.now)) }
 {
-    let mut i = from;
-    while i < text.len() {
-        let k = text[i];
-        i += 1;
-        if k == c {
-            return i;
+    for i in from..text.len() {
+        if text[i] == c {
+            return i + 1;
         }
     }
-    i
+    text.len()
 }
 
 // The first letter of the next item or else, or the end.

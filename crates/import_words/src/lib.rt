@@ -9,18 +9,14 @@ ghost use Rattle.import_model.specs.Encode.{low_first, word_of, words_bytes, act
 
 use c_answers::put_le;
 use whole::NUMBERS;
-use whole::limits::mag;
 
 // Two's complement, 32 bits.
 fn word(z: i64) -> u64
     requires { T (in_32_bits z) }
     ensures { result ≡ word_of z }
 {
-    let n = mag(z);
-    if z < 0 {
-        return 4294967296 - n;
-    }
-    n
+    let n = z.unsigned_abs();
+    if z < 0 { 4294967296 - n } else { n }
 }
 
 fn put_word(out: &mut [u8], at: usize, z: i64) -> usize
@@ -36,10 +32,8 @@ pub fn put_words(out: &mut [u8], at: usize, a: [i64; NUMBERS]) -> usize
     ensures { PutAt out.old at (words_bytes a) result out.new }
 {
     let mut next = at;
-    let mut i: usize = 0;
-    while i < NUMBERS {
+    for i in 0..NUMBERS {
         next = put_word(out, next, a[i]);
-        i += 1;
     }
     next
 }
@@ -49,5 +43,5 @@ pub fn put_action(out: &mut [u8], at: usize, action: u16) -> usize
     requires { at + 2 ≤ length out.old }
     ensures { PutAt out.old at (action_encoded action) result out.new }
 {
-    put_le(out, at, action as u64, 2)
+    put_le(out, at, u64::from(action), 2)
 }

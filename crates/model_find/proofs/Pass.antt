@@ -1,12 +1,13 @@
 -- One turn of the pass, with fuel enough for the rest.
-use mathlib.Core.Path.{◌≡◌, refl, sym, ap, ◌∙◌, subst}
-use mathlib.Core.Bool.{Bool, true, false}
-use mathlib.Core.List.{List}
+use mathlib.Core.Path.{◌≡◌, refl, sym, ap, ◌∙◌}
+use mathlib.Core.Bool.{Bool, true, false, ◌&&◌}
+use mathlib.Core.List.{List, [], ◌∷◌}
 use Prim.Native.Nat.{ℕ, suc, ◌+◌, ◌-◌, ◌≤◌, ◌<◌}
 use native.Mathlib.Omega.{arith}
-use lib.Dec.{T}
+use lib.Dec.{eqb}
+use lib.Pointwise.{pointwise}
 use lib.ListN.{length, take, drop, length-drop}
-use Rattle.whole.specs.Cases.{if, same_bool, is_true, from_true}
+use Rattle.whole.specs.Cases.{if}
 use Rattle.theory.specs.Command.{Command, name_action, end_model, Read, whole, unknown, short, read_at, goes_on, readings_from, readings, readings_in}
 use Rattle.theory.specs.Widths.{name_bytes}
 use Rattle.theory.specs.Form.{new_form, behind_action}
@@ -24,20 +25,25 @@ use Rattle.model_find.specs.declared.Bearers.{Bearers}
 use Rattle.model_find.specs.declared.Bearers.TheVariants.{Nobody}
 use Rattle.model_find.specs.Find.{trim, same_name}
 use Rattle.model_find.specs.Tally.{joined, with_reading, tally}
-use Rattle.model_find.proofs.laws.Spaces.{same_is, same_self, trim_first}
+use Rattle.model_find.proofs.laws.Spaces.{trim_first}
 
 -- ---- one command
 
 -- bytes that are the name, but for spaces at their end
-pub spelt : (B : List ℕ) (from : ℕ) (x : List ℕ) (n : ℕ) (r : Bool) → from + name_bytes ≤ length B → n ≡ trimmed (drop from B) name_bytes
-    → (r ≡ true → take (from + n - from) (drop from B) ≡ x) → (take (from + n - from) (drop from B) ≡ x → r ≡ true) → r ≡ same_name (trim (take name_bytes (drop from B))) x
-spelt B from x n r h e f g =
+same_each : (x y : List ℕ) → pointwise eqb x y ≡ same_name x y
+unfolding same_name
+same_each [] [] = refl
+same_each [] (b ∷ y) = refl
+same_each (a ∷ x) [] = refl
+same_each (a ∷ x) (b ∷ y) = ap (λ (c : Bool). eqb a b && c) (same_each x y)
+
+pub spelt : (B : List ℕ) (from : ℕ) (x : List ℕ) (n : ℕ) → from + name_bytes ≤ length B → n ≡ trimmed (drop from B) name_bytes
+    → pointwise eqb (take (from + n - from) (drop from B)) x ≡ same_name (trim (take name_bytes (drop from B))) x
+spelt B from x n h e =
     let l = drop from B in
     let j : from + n - from ≡ n = omega arith in
     let i : take (from + n - from) l ≡ trim (take name_bytes l) = ap (λ (k : ℕ). take k l) (j ∙ e) ∙ sym (trim_first l name_bytes (omega (arith, length-drop from B))) in
-    same_bool r (same_name (trim (take name_bytes l)) x)
-    (λ t. subst (λ (y : List ℕ). T (same_name (trim (take name_bytes l)) y)) (sym i ∙ f (is_true r t)) (same_self (trim (take name_bytes l))))
-    (λ t. from_true (g (i ∙ same_is (trim (take name_bytes l)) x t)))
+    same_each _ x ∙ ap (λ (y : List ℕ). same_name y x) i
 
 module _ (B : List ℕ) (at : ℕ) {c : CodeCommand} (a : ℕ) (e : c ≡ Name a) where
   named : command_of B at c ≡ name_action a (take name_bytes (drop (at + behind_action new_form) B))

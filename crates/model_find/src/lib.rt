@@ -64,8 +64,7 @@ fn spells(model: &[u8], from: usize, name: &[u8]) -> bool
     ensures { result ≡ same_name (trim (take name_bytes (drop from model.now))) name.now }
 {
     let size = model_names::trimmed_len(model, from, NAME_BYTES);
-    let to = from + size;
-    check::same(&model[from..to], name)
+    &model[from..from + size] == name
 }
 
 fn with_command(model: &[u8], at: usize, c: Command, name: &[u8], known: Bearers) -> Bearers
@@ -89,8 +88,7 @@ fn bearers_of(model: &[u8], name: &[u8]) -> Bearers
     let mut at: usize = 0;
     let mut known = Bearers::Nobody;
     loop {
-        let read = model_command::command_at(model, at);
-        let Ok(c) = read else {
+        let Ok(c) = model_command::command_at(model, at) else {
             return known;
         };
         if model::is_end(c) {

@@ -15,6 +15,9 @@ use model::Verdict;
 use model_command::{Command, NAME_BYTES};
 use model_form::Form;
 
+// "16: action not 1 to A"
+const NO_ACTION: u32 = 16;
+
 // A part of the model.
 #[derive(Clone, Copy)]
 pub struct Part {
@@ -27,13 +30,10 @@ pub fn trimmed_len(model: &[u8], from: usize, n: usize) -> usize
     requires { from + n ≤ length model.now }
     ensures { (result ≤ n) × (result ≡ trimmed (drop from model.now) n) }
 {
-    let mut k = n;
-    while 0 < k {
-        let i = from + (k - 1);
-        if model[i] != 0x20 {
-            return k;
+    for k in (0..n).rev() {
+        if model[from + k] != 0x20 {
+            return k + 1;
         }
-        k -= 1;
     }
     0
 }
@@ -41,10 +41,9 @@ pub fn trimmed_len(model: &[u8], from: usize, n: usize) -> usize
 fn names(c: Command, action: u32) -> bool
     ensures { (B : List ℕ) (at : ℕ) → result ≡ names_action action (whole (command_of B at c)) }
 {
-    if let Command::Name(a) = c {
-        action == u32::from(a)
-    } else {
-        false
+    match c {
+        Command::Name(a) => action == u32::from(a),
+        _ => false,
     }
 }
 
@@ -54,8 +53,7 @@ fn named_part(model: &[u8], action: u32) -> Part
 {
     let mut at: usize = 0;
     loop {
-        let read = model_command::command_at(model, at);
-        let Ok(c) = read else {
+        let Ok(c) = model_command::command_at(model, at) else {
             return Part { start: 0, size: 0 };
         };
         if names(c, action) {
@@ -80,16 +78,9 @@ pub fn name_refusal(model: &[u8], action: u32) -> Verdict
     if v.number != 0 {
         return v;
     }
-    let site = model::site(model);
-    if action < 1 {
+    if action < 1 || u32::from(model::site(model).actions) < action {
         return Verdict {
-            number: 16,
-            place: 0,
-        };
-    }
-    if u32::from(site.actions) < action {
-        return Verdict {
-            number: 16,
+            number: NO_ACTION,
             place: 0,
         };
     }
@@ -110,7 +101,5 @@ pub fn name(model: &[u8], action: u32) -> &[u8]
         return &model[..0];
     }
     let p = named_part(model, action);
-    let from = p.start;
-    let to = p.start + p.size;
-    &model[from..to]
+    &model[p.start..p.start + p.size]
 }

@@ -1,15 +1,15 @@
 -- How far apart two worths are, and whether it is more than a margin.
 use mathlib.Core.Path.{◌≡◌, refl, sym, ap, ap₂, ◌∙◌, subst}
 use mathlib.Core.Bool.{Bool, true, false}
-use Prim.Native.Nat.{ℕ, suc, ◌+◌, ◌-◌, ◌*◌, ◌/◌, ◌^◌, ◌≤◌, ◌<◌}
+use Prim.Native.Nat.{ℕ, suc, ◌+◌, ◌-◌, ◌*◌, ◌/◌, ◌≤◌, ◌<◌}
 use native.Mathlib.Nat.{le-div_iff_mul-le}
 use native.Mathlib.Omega.{arith}
-use borrow.Author.Tests.{leb-false, le-ltb, lt-ltb}
-use lib.Dec.{T, leb, ltb, leb→le, le→leb, ltb→lt, lt→ltb}
+use borrow.Author.Tests.{eq-eqb, leb-false, le-ltb, lt-ltb}
+use lib.Dec.{T, eqb, leb, ltb, leb→le, le→leb, ltb→lt, lt→ltb}
 use lib.IntN.{ℤ, pos, negsuc, nat_abs, ◌+ℤ◌, ◌-ℤ◌}
 use lib.Signed.{◌≤ℤ◌, le_z, le_z_yes, lt_z}
 use mir.Syntax.{w64}
-use mir.Val.{Fits, SFits}
+use mir.Val.{SFits}
 use Rattle.whole.specs.Cases.{if, clash, same_bool, from_true}
 use Rattle.whole.specs.Int.{up, down, atom, diff, le_in}
 use Rattle.whole.proofs.Signed.{R, back}
@@ -22,9 +22,6 @@ use Rattle.price_margin.specs.Rivals.{beats, rival}
 
 -- ---- how far v lies above u
 
-up_pos : (z : ℤ) (k : ℕ) → z ≡ pos k → k ≡ up z
-up_pos z k e = sym (ap up e)
-
 up_low : (z : ℤ) → z ≤ℤ pos 0 → 0 ≡ up z
 up_low (pos n) h = let k = leb→le n 0 h.le in omega arith
 up_low (negsuc n) h = refl
@@ -36,65 +33,22 @@ lies_low v u h = rw (← atom v, ← atom u) (simp diff (omega (arith, le_in v u
 gap : (v u : ℤ) (k : ℕ) → up v + down u ≡ up u + down v + k → v -ℤ u ≡ pos k
 gap v u k e = rw (← atom v, ← atom u) (simp diff (omega (arith, e)))
 
--- by magnitudes: u not negative; v not negative and u negative; both negative
-high : (v u : ℤ) → le_z v u ≡ false → le_z (pos 0) u ≡ true → (nat_abs u ≤ nat_abs v) × (nat_abs v - nat_abs u ≡ up (v -ℤ u))
-high (pos m) (pos n) q t = let h = leb-false m n q in (omega arith, up_pos (pos m -ℤ pos n) (m - n) (gap (pos m) (pos n) (m - n) (omega arith)))
-high (negsuc m) (pos n) q t = clash q
-high v (negsuc n) q t = clash (sym t)
+of_pos : {z : ℤ} {k : ℕ} → z ≡ pos k → nat_abs z ≡ up z
+of_pos e = ap nat_abs e ∙ sym (ap up e)
 
-across : (v u : ℤ) → le_z (pos 0) u ≡ false → le_z (pos 0) v ≡ true → nat_abs v + nat_abs u ≡ up (v -ℤ u)
-across (pos m) (negsuc n) q t = up_pos (pos m -ℤ negsuc n) (m + suc n) (gap (pos m) (negsuc n) (m + suc n) (omega arith))
-across (pos m) (pos n) q t = let h = leb-false 0 n q in absurd (omega arith)
-across (negsuc m) u q t = clash (sym t)
-
-low : (v u : ℤ) → le_z v u ≡ false → le_z (pos 0) u ≡ false → le_z (pos 0) v ≡ false → (nat_abs v ≤ nat_abs u) × (nat_abs u - nat_abs v ≡ up (v -ℤ u))
-low (negsuc m) (negsuc n) q t r = let h = leb-false n m q in (omega arith, up_pos (negsuc m -ℤ negsuc n) (suc n - suc m) (gap (negsuc m) (negsuc n) (suc n - suc m) (omega arith)))
-low v (pos n) q t r = let h = leb-false 0 n t in absurd (omega arith)
-low (pos m) (negsuc n) q t r = let h = leb-false 0 m r in absurd (omega arith)
-
-sum_fits : (v u : ℤ) → SFits w64 v → SFits w64 u → le_z (pos 0) v ≡ true → nat_abs v + nat_abs u < 2 ^ 64
-sum_fits (pos m) (pos n) f g t = omega (arith, f.sfits, g.sfits)
-sum_fits (pos m) (negsuc n) f g t = omega (arith, f.sfits, g.sfits)
-sum_fits (negsuc m) u f g t = clash (sym t)
+-- what is not at most u lies above it by the magnitude of the difference
+apart : (v u : ℤ) → le_z v u ≡ false → nat_abs (v -ℤ u) ≡ up (v -ℤ u)
+apart (pos m) (pos n) q = let h = leb-false m n q in of_pos (gap (pos m) (pos n) (m - n) (omega arith))
+apart (pos m) (negsuc n) q = of_pos (gap (pos m) (negsuc n) (m + suc n) (omega arith))
+apart (negsuc m) (pos n) q = clash q
+apart (negsuc m) (negsuc n) q = let h = leb-false n m q in of_pos (gap (negsuc m) (negsuc n) (suc n - suc m) (omega arith))
 
 module _ (v u : ℤ) (fv : SFits w64 v) (fu : SFits w64 u) where
   pub none_above : le_z (R v) (R u) ≡ true → 0 ≡ up (v -ℤ u)
   none_above t = up_low (v -ℤ u) (lies_low v u (le_z_yes (from_true (ap₂ le_z (sym (back v fv)) (sym (back u fu)) ∙ t))))
 
-  -- the tests and the magnitudes, of the numbers themselves
-  same : le_z (R v) (R u) ≡ false → le_z v u ≡ false
-  same q = ap₂ le_z (sym (back v fv)) (sym (back u fu)) ∙ q
-
-  sign_v : {b : Bool} → le_z (pos 0) (R v) ≡ b → le_z (pos 0) v ≡ b
-  sign_v q = ap (le_z (pos 0)) (sym (back v fv)) ∙ q
-
-  sign_u : {b : Bool} → le_z (pos 0) (R u) ≡ b → le_z (pos 0) u ≡ b
-  sign_u q = ap (le_z (pos 0)) (sym (back u fu)) ∙ q
-
-  module _ {a b : ℕ} (ev : a ≡ nat_abs (R v)) (eu : b ≡ nat_abs (R u)) where
-    v_is : a ≡ nat_abs v
-    v_is = ev ∙ ap nat_abs (back v fv)
-
-    u_is : b ≡ nat_abs u
-    u_is = eu ∙ ap nat_abs (back u fu)
-
-    pub high_fits : le_z (R v) (R u) ≡ false → le_z (pos 0) (R u) ≡ true → b ≤ a
-    high_fits q t = rw (v_is, u_is) (high v u (same q) (sign_u t)).0
-
-    pub high_is : le_z (R v) (R u) ≡ false → le_z (pos 0) (R u) ≡ true → a - b ≡ up (v -ℤ u)
-    high_is q t = ap₂ ◌-◌ v_is u_is ∙ (high v u (same q) (sign_u t)).1
-
-    pub across_fits : le_z (pos 0) (R v) ≡ true → Fits w64 (a + b)
-    across_fits t = record { fits = rw (v_is, u_is) (sum_fits v u fv fu (sign_v t)) }
-
-    pub across_is : le_z (pos 0) (R u) ≡ false → le_z (pos 0) (R v) ≡ true → a + b ≡ up (v -ℤ u)
-    across_is q t = ap₂ ◌+◌ v_is u_is ∙ across v u (sign_u q) (sign_v t)
-
-    pub low_fits : le_z (R v) (R u) ≡ false → le_z (pos 0) (R u) ≡ false → le_z (pos 0) (R v) ≡ false → a ≤ b
-    low_fits q t r = rw (v_is, u_is) (low v u (same q) (sign_u t) (sign_v r)).0
-
-    pub low_is : le_z (R v) (R u) ≡ false → le_z (pos 0) (R u) ≡ false → le_z (pos 0) (R v) ≡ false → b - a ≡ up (v -ℤ u)
-    low_is q t r = ap₂ ◌-◌ u_is v_is ∙ (low v u (same q) (sign_u t) (sign_v r)).1
+  pub lies_above : le_z (R v) (R u) ≡ false → {a : ℕ} → a ≡ nat_abs (R v -ℤ R u) → a ≡ up (v -ℤ u)
+  lies_above q e = e ∙ ap₂ (λ (x y : ℤ). nat_abs (x -ℤ y)) (back v fv) (back u fu) ∙ apart v u (ap₂ le_z (sym (back v fv)) (sym (back u fu)) ∙ q)
 
 -- ---- more than a product, by division
 
@@ -102,8 +56,8 @@ module _ (x h e d p : ℕ) where
   pub not_more : x ≡ 0 → false ≡ ltb (2 * h * e * (d * p)) x
   not_more z = sym (le-ltb _ x (omega arith))
 
-  pub free : (x ≡ 0 → ⊥) → e ≡ 0 → true ≡ ltb (2 * h * e * (d * p)) x
-  free n z = sym (lt-ltb _ x (subst (λ (k : ℕ). 2 * h * k * (d * p) < x) (sym z) (omega (arith, n))))
+  pub free : (x ≡ 0 → ⊥) → e ≡ 0 → eqb e 0 ≡ ltb (2 * h * e * (d * p)) x
+  free n z = eq-eqb e 0 z ∙ sym (lt-ltb _ x (subst (λ (k : ℕ). 2 * h * k * (d * p) < x) (sym z) (omega (arith, n))))
 
   order : p * d * e * (2 * h) ≡ 2 * h * e * (d * p)
   order = omega arith

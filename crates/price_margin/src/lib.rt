@@ -8,22 +8,12 @@ ghost use Rattle.price_change.specs.Sure.{exceeds as exceeds-of};
 ghost use Rattle.price_margin.specs.Rivals.{beats as beats-of, rival as rival-of};
 
 use plain_limits::Total;
-use whole::limits::mag;
 
-// How far v lies above u, 0 where it does not: two words within 64 bits are never further apart than 64 bits say.
+// How far v lies above u, 0 where it does not.
 fn above(v: i64, u: i64) -> u64
     ensures { result ≡ up (v -ℤ u) }
 {
-    if v <= u {
-        return 0;
-    }
-    if u >= 0 {
-        return mag(v) - mag(u);
-    }
-    if v >= 0 {
-        return mag(v) + mag(u);
-    }
-    mag(u) - mag(v)
+    if v <= u { 0 } else { v.abs_diff(u) }
 }
 
 // x is more than 2 × h × e × D × P. The product can need 128 bits; x − 1 divided by its factors, rounded down, cannot.
@@ -34,10 +24,7 @@ fn more_than(x: u64, h: u64, e: u64, d: u64, p: u64) -> bool
     if x == 0 {
         return false;
     }
-    if e == 0 {
-        return true;
-    }
-    p <= (x - 1) / (2 * h) / e / d
+    e == 0 || p <= (x - 1) / (2 * h) / e / d
 }
 
 // v exceeds the worth t by more than 2 × h × e × D × P, or t is none.

@@ -41,14 +41,10 @@ fn refused(number: u32, place: usize) -> Said
 fn answered(yes: bool) -> Said
     ensures { out result ≡ said_of yes }
 {
-    let mut sure: u32 = 0;
-    if yes {
-        sure = 1;
-    }
     Said {
         number: 0,
         place: 0,
-        sure,
+        sure: u32::from(yes),
     }
 }
 
@@ -121,15 +117,14 @@ fn worked(model: &[u8], steps: u32, x: Point, e: u64, d: u64) -> Said
 fn size(z: i32) -> u64
     ensures { result ≡ nat_abs z }
 {
-    mag(z as i64)
+    u64::from(z.unsigned_abs())
 }
 
 // The denominator of a state, which is not negative where it is accepted.
 fn denominator(q: Asked) -> u64
     ensures { result ≡ nat_abs (asked q).den }
 {
-    let d = q.n[COEFFICIENTS];
-    size(d)
+    size(q.n[COEFFICIENTS])
 }
 
 // "Order: 10, 9, the model, 13, 23; then 11 as plain working gives it": whether the plan's action at the state stays best where rewards move by at most e.
@@ -142,7 +137,7 @@ pub fn sure(bytes: &[u8], steps: u32, q: Asked, e: i32) -> Said
     }
     let m = sites::levels(bytes) as u32;
     let n = sites::conditions(bytes) as u32;
-    if value_walk::states::accepted(m, n, q) {} else {
+    if !value_walk::states::accepted(m, n, q) {
         return refused(13, 0);
     }
     if e < 0 {

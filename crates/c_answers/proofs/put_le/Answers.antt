@@ -1,6 +1,7 @@
-use Prim.Native.Nat.{◌-◌}
+use Prim.Native.Nat.{ℕ, ◌+◌}
+use mathlib.Core.Path.{◌≡◌, sym, ap, ◌∙◌}
 use native.Mathlib.Omega.{arith}
-use Rattle.c_answers.proofs.Bytes.{Begun, begin, begun_length, further, ended}
+use Rattle.c_answers.proofs.Bytes.{begin, begun_length, further, ended}
 use Rattle.c_answers.proofs.put_le.Goals as goal
 
 pub loop-i-init : goal.loop-i-init
@@ -22,4 +23,7 @@ pub shape_of-out : goal.shape_of-out
 shape_of-out c = begun_length c.loop-i.invariant c.requires
 
 pub returns : goal.returns
-returns c = ended c.loop-i.invariant c.requires c.loop-i-test.false
+returns c =
+    let n : c.loop-i.i ≡ c.args.k = omega (arith, c.loop-i.invariant.few, c.loop-i-test.false) in
+    let p = ended c.loop-i.invariant c.requires c.loop-i-test.false in
+    record { behind = ap (λ (i : ℕ). c.args.at + i) (sym n) ∙ p.behind; left = p.left }

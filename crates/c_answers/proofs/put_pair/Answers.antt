@@ -1,7 +1,6 @@
 -- `c_answers::put_pair` meets its contract.
 use native.Mathlib.Omega.{arith}
 use Rattle.c_answers.proofs.Bytes.{le_length, pair_put}
-use borrow.Author.Rules.{rules}
 use Rattle.c_answers.proofs.put_pair.Goals as goal
 
 pub put_le-requires : goal.put_le-requires

@@ -4,7 +4,6 @@ use native.Mathlib.Omega.{arith}
 use Rattle.theory.specs.Form.{bytes_in}
 use Rattle.model_form.specs.declared.Form.{Form as CodeForm}
 use Rattle.model_form.specs.Forms.{form_of}
-use borrow.Author.Rules.{rules}
 use Rattle.convert_model.proofs.bytes_most.Goals as goal
 
 pub returns-in-Old : goal.returns-in-Old

@@ -4,7 +4,6 @@ use mathlib.Core.Path.{◌∙◌}
 use native.Mathlib.Omega.{arith}
 use Rattle.model_form.specs.Forms.{form_of}
 use Rattle.convert_model.proofs.Call.{own_bytes, form_most, refused_as, call_refused, call_20, call_17, call_0}
-use borrow.Author.Rules.{rules}
 use Rattle.convert_model.proofs.convert.Goals as goal
 
 pub returns-then-v-ne0 : goal.returns-then-v-ne0

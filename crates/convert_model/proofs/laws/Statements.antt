@@ -6,7 +6,7 @@ use Rattle.theory.specs.Form.{Form, old_form, new_form, levels_in, actions_in, b
 use Rattle.theory.specs.Process.{optimum, lowest_best}
 use Rattle.theory.specs.Meaning.{Model, process}
 use Rattle.theory.specs.Verdict.{Verdict, refusal, verdict_in}
-use Rattle.theory.specs.Load.{site_in, model}
+use Rattle.theory.specs.Load.{site_in}
 use Rattle.theory.specs.Listing.{written, ListingOut}
 use Rattle.theory.specs.Rows.{VerdictRowIn}
 use Rattle.theory.proofs.laws.Rows.{verdict_is_in, verdict_row_in}

@@ -3,7 +3,6 @@ use mathlib.Core.Path.{◌∙◌}
 use native.Mathlib.Omega.{arith}
 use Rattle.model_form.specs.Forms.{form_of}
 use Rattle.convert_model.proofs.Call.{own_long, own_short}
-use borrow.Author.Rules.{rules}
 use Rattle.convert_model.proofs.own.Goals as goal
 
 pub returns-then-bytes_most-model : goal.returns-then-bytes_most-model

@@ -1,6 +1,5 @@
 -- `convert_model::to_new` meets its contract.
 use Rattle.model_form.specs.Forms.{form_of}
-use borrow.Author.Rules.{rules}
 use Rattle.convert_model.proofs.to_new.Goals as goal
 
 pub returns : goal.returns

@@ -6,6 +6,3 @@ use Rattle.import_descend.proofs.descend.Given as goal
 
 abbrev pub invariant-loop-n : goal.invariant-loop-n
 invariant-loop-n l = Walking l.text l.initial.s l.initial.list l.initial.n l.s l.list l.n
-
-abbrev pub decreases-loop-n : goal.decreases-loop-n
-decreases-loop-n l = length l.initial.list + 1 - l.n

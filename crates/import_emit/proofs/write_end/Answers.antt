@@ -9,8 +9,8 @@ use Rattle.import_emit.proofs.write_end.Goals as goal
 pub returns-then-at-out : goal.returns-then-at-out
 returns-then-at-out c = record { same = refl; put = fits_not refl (omega (arith, end_length, c.if-at-out.true)) }
 
-pub put_end-n-requires : goal.put_end-n-requires
-put_end-n-requires c = omega (arith, end_length, c.if-at-out.false, c.requires)
+pub put_end-requires : goal.put_end-requires
+put_end-requires c = omega (arith, end_length, c.if-at-out.false, c.requires)
 
 pub returns : goal.returns
-returns c = record { same = c.put_end-n.auto.out; put = fits refl c.put_end-n.ensures }
+returns c = record { same = c.put_end.auto.out; put = fits refl c.put_end.ensures }

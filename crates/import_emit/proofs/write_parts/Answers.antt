@@ -3,6 +3,9 @@ use Prim.Native.Nat.{◌-◌}
 use native.Mathlib.Omega.{arith}
 use lib.ListN.{length}
 use Rattle.import_emit.proofs.Going.{Going, begun, some_part, going_on, gone_full, gone_all}
+use Rattle.std.proofs.lemmas.Result.{err_from_is_err_and}
+use mathlib.Core.Path.{ap, sym}
+use Rattle.import_emit_cases.specs.Emitting.{is_full, place}
 use Rattle.import_emit.proofs.write_parts.Goals as goal
 
 pub loop-i-init : goal.loop-i-init
@@ -13,18 +16,19 @@ put_part-p-requires c = let p = c.requires in
     let v = c.loop-i.invariant in
     some_part _ _ _ p.lent.room _ _ _ _ p.parts p.spaces c.loop-i-test.true (record { short = p.lent.short; long = v.long; room = v.room }) (v.gone p.parts p.spaces p.comes)
 
-pub shape_of-list-then-e : goal.shape_of-list-then-e
-shape_of-list-then-e c = omega (arith, c.put_part-p.auto.list, c.loop-i.invariant.long, c.requires.lent.long)
+pub shape_of-list-in_err-at : goal.shape_of-list-in_err-at
+shape_of-list-in_err-at c = omega (arith, c.put_part-p.auto.list, c.loop-i.invariant.long, c.requires.lent.long)
 
-pub shape_of-out-then-e : goal.shape_of-out-then-e
-shape_of-out-then-e c = omega (arith, c.put_part-p.ensures.same, c.loop-i.invariant.same)
+pub shape_of-out-in_err-at : goal.shape_of-out-in_err-at
+shape_of-out-in_err-at c = omega (arith, c.put_part-p.ensures.same, c.loop-i.invariant.same)
 
-pub returns-then-e : goal.returns-then-e
-returns-then-e c = let q = c.put_part-p.ensures in
+pub returns-in_err-at : goal.returns-in_err-at
+returns-in_err-at c = let q = c.put_part-p.ensures in
     let v = c.loop-i.invariant in
     let r = c.requires.lent.room in
     let h = c.loop-i-test.true in
-    record { same = q.same ∙ v.same; put = λ P e k. gone_full _ _ _ r _ _ _ _ _ q h P e v.same c.if-e.true (v.gone P e k) }
+    let p = err_from_is_err_and c.from_residual.result c.from_residual.ensures.1 in
+    rw (p.1, ← c.in_err-at.was) (record { same = q.same ∙ v.same; put = λ P e k. gone_full _ _ _ r _ _ _ _ _ q h P e v.same (ap is_full c.in_err-at.was) (v.gone P e k) })
 
 pub loop-i-smaller : goal.loop-i-smaller
 loop-i-smaller c = let h = c.loop-i-test.true in
@@ -34,7 +38,8 @@ pub loop-i-preserved : goal.loop-i-preserved
 loop-i-preserved c = let p = c.requires in
     let v = c.loop-i.invariant in
     let q = c.put_part-p in
-    going_on _ _ _ p.lent.room _ _ _ _ _ q.ensures c.loop-i-test.true _ _ _ p (omega (arith, q.auto.list, v.long)) c.if-e.false v.gone v.same
+    rw (sym (ap place c.in_ok-at.was))
+    (going_on _ _ _ p.lent.room _ _ _ _ _ q.ensures c.loop-i-test.true _ _ _ p (omega (arith, q.auto.list, v.long)) (ap is_full c.in_ok-at.was) v.gone v.same)
 
 pub write_end-requires : goal.write_end-requires
 write_end-requires c = c.loop-i.invariant.room

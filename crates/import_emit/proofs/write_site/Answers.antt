@@ -30,13 +30,13 @@ overflow_cast-s-3 c = let z = site_small _ _ _ c.header_at-s.ensures in omega ar
 pub overflow_cast-s-4 : goal.overflow_cast-s-4
 overflow_cast-s-4 c = let z = site_small _ _ _ c.header_at-s.ensures in omega arith
 
-pub put_site-n-requires : goal.put_site-n-requires
-put_site-n-requires c = simp site_length (omega (arith, c.if-out-lt-SITE.false))
+pub put_site-behind-requires : goal.put_site-behind-requires
+put_site-behind-requires c = simp site_length (omega (arith, c.if-out-lt-SITE.false))
 
 pub returns : goal.returns
 returns c = let s = c.header_at-s.ensures in
     record {
-      same = c.put_site-n.auto.out;
-      put = λ t. put_as (ap command_bytes (site_is _ _ s t)) (fits refl c.put_site-n.ensures);
+      same = c.put_site-behind.auto.out;
+      put = λ t. put_as (ap command_bytes (site_is _ _ s t)) (fits refl c.put_site-behind.ensures);
       on = site_on _ _ s;
     }

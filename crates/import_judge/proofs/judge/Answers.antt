@@ -10,9 +10,9 @@ use Rattle.import_judge.proofs.judge.Goals as goal
 pub returns-then-text-gt-TEXT_MOST : goal.returns-then-text-gt-TEXT_MOST
 returns-then-text-gt-TEXT_MOST c = shown_as c.refusal.result _ _ c.refusal.ensures ∙ long_text c.args.text.now c.if-text-gt-TEXT_MOST.true
 
-pub returns-in-Stops : goal.returns-in-Stops
-returns-in-Stops c = shown_as c.refusal-in-Stops.result _ _ c.refusal-in-Stops.ensures
-    ∙ outside c.args.text.now c.if-text-gt-TEXT_MOST.false _ (sym c.scan.ensures ∙ c.in-Stops.is)
+pub returns-in-Err : goal.returns-in-Err
+returns-in-Err c = shown_as c.refusal-in-Err.result _ _ c.refusal-in-Err.ensures
+    ∙ outside c.args.text.now c.if-text-gt-TEXT_MOST.false _ (sym c.scan.ensures ∙ c.in-Err.is)
 
 pub returns-then-beyond : goal.returns-then-beyond
 returns-then-beyond c = shown_as c.refusal-then-beyond.result _ _ c.refusal-then-beyond.ensures

@@ -10,12 +10,12 @@ pub loop-i-preserved : goal.loop-i-preserved
 loop-i-preserved c = (
   omega arith,
   one_in c.args.a c.well_formed.0.1.0.1 c.loop-i.i c.loop-i.invariant.1
-      c.loop-i-test.true c.fits-arg-1.given c.fits.ensures c.if-fits.true,
+      c.loop-i-test.true c.fits-arg-1.given c.fits.ensures c.if-not-fits.false,
 )
 
-pub returns-else-fits : goal.returns-else-fits
-returns-else-fits c = one_out c.args.a c.well_formed.0.1.0.1 c.loop-i.i c.loop-i.invariant.1
-    c.loop-i-test.true c.fits-arg-1.given c.fits.ensures c.if-fits.false
+pub returns-then-not-fits : goal.returns-then-not-fits
+returns-then-not-fits c = one_out c.args.a c.well_formed.0.1.0.1 c.loop-i.i c.loop-i.invariant.1
+    c.loop-i-test.true c.fits-arg-1.given c.fits.ensures c.if-not-fits.true
 
 pub returns : goal.returns
 returns c = all_in c.args.a c.well_formed.0.1.0.1 c.loop-i.i c.loop-i.invariant.1 c.loop-i-test.false

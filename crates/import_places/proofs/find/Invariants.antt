@@ -1,17 +1,10 @@
 -- `import_places::find` meets its contract: the walk in the state s from i leads to the place that is meant from the start (`At`); the depth is at most i, and the mask below 2 to the count.
-use mathlib.Core.Path.{sym, ◌∙◌, refl}
 use mathlib.Core.Bool.{false}
-use Prim.Native.Nat.{◌-◌}
-use native.Mathlib.Omega.{arith}
-use lib.ListN.{length, drop}
-use borrow.Author.Rules.{rules}
+use lib.ListN.{drop}
 use Rattle.import_found.specs.Places.{find as place_after}
-use Rattle.import_places.specs.Walking.{signs, meant}
-use Rattle.import_places.proofs.Steps.{At, on_byte, on_depth, on_low, at_end}
+use Rattle.import_places.specs.Walking.{signs}
+use Rattle.import_places.proofs.Steps.{At}
 use Rattle.import_places.proofs.find.Given as goal
 
 abbrev pub invariant-loop-i : goal.invariant-loop-i
 invariant-loop-i l = At l.text (place_after (drop l.from l.text) 0 l.value false (signs l.mask l.count)) l.s l.i
-
-abbrev pub decreases-loop-i : goal.decreases-loop-i
-decreases-loop-i l = length l.text - l.i

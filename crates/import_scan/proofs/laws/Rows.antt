@@ -6,8 +6,7 @@ use Rattle.import_grammar.specs.Reader.{begin}
 use Rattle.import_grammar.specs.laws.Viable.{Outcome, fine, stops, Right, scan}
 use Rattle.import_grammar.proofs.laws.Viable.{scan_right}
 use Rattle.import_grammar.proofs.laws.Unique.{one_place, stops_outside}
-use Rattle.import_scan.specs.declared.Scanned.{Scanned}
-use Rattle.import_scan.specs.declared.Scanned.TheVariants.{Fine, Stops}
+use Rattle.std.specs.Prelude.{Result, Ok, Err}
 use Rattle.import_scan.specs.Answer.{answer}
 use Rattle.import_scan.specs.ScanRows.{ScanRow, inside, outside, ScanRows}
 
@@ -16,12 +15,12 @@ unfolding answer InGrammar
 row_of w (fine t) e = inside (t, e)
 row_of w (stops i) s = outside s
 
-row_is : (w : List ℕ) (o : Outcome) → Right w o → (r : Scanned) → ScanRow w r → answer o ≡ r
+row_is : (w : List ℕ) (o : Outcome) → Right w o → (r : Result (Unit {0}) ℕ) → ScanRow w r → answer o ≡ r
 unfolding answer InGrammar
-row_is w (fine t) e Fine (inside g) = refl
-row_is w (fine t) e (Stops i) (outside s) = absurd (stops_outside w i s (t, e))
-row_is w (stops i) s Fine (inside g) = absurd (stops_outside w i s g)
-row_is w (stops i) s (Stops j) (outside t) = ap Stops (one_place w i j s t)
+row_is w (fine t) e (Ok u) (inside g) = refl
+row_is w (fine t) e (Err i) (outside s) = absurd (stops_outside w i s (t, e))
+row_is w (stops i) s (Ok u) (inside g) = absurd (stops_outside w i s g)
+row_is w (stops i) s (Err j) (outside t) = ap Err (one_place w i j s t)
 
 pub scan_rows : ScanRows
 scan_rows w r =

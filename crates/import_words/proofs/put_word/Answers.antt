@@ -3,7 +3,6 @@ use mathlib.Core.Path.{ap, ◌∙◌}
 use Rattle.text_decimal.proofs.Puts.{rename}
 use Rattle.import_model.specs.Encode.{low_first}
 use Rattle.import_words.proofs.Laws.{as_low_first, word_back}
-use borrow.Author.Rules.{rules}
 use Rattle.import_words.proofs.put_word.Goals as goal
 
 pub returns : goal.returns

@@ -1,7 +1,4 @@
-use Prim.Native.Nat.{◌-◌}
-use native.Mathlib.Omega.{arith}
-use Rattle.whole.specs.Linears.{numbers}
-use Rattle.import_words.proofs.Laws.{Written, begin, within_back, room, further, all_put}
+use Rattle.import_words.proofs.Laws.{begin, within_back, room, further, all_put}
 use Rattle.import_words.proofs.put_words.Goals as goal
 
 pub loop-i-init : goal.loop-i-init

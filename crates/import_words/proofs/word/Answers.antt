@@ -1,14 +1,13 @@
 -- `import_words::word` meets its contract.
 use native.Mathlib.Omega.{arith}
 use Rattle.import_words.proofs.Laws.{negative, not_negative}
-use borrow.Author.Rules.{rules}
 use Rattle.import_words.proofs.word.Goals as goal
 
 pub overflow_sub-result : goal.overflow_sub-result
-overflow_sub-result c = let d = negative c.args.z c.mag-n.result c.ranges.z c.requires c.mag-n.ensures c.if-z-lt0.true in omega (arith, d.few)
+overflow_sub-result c = let d = negative c.args.z c.unsigned_abs-n.result c.ranges.z c.requires c.unsigned_abs-n.ensures.value c.if-z-lt0.true in omega (arith, d.few)
 
 pub returns-then-z-lt0 : goal.returns-then-z-lt0
-returns-then-z-lt0 c = (negative c.args.z c.mag-n.result c.ranges.z c.requires c.mag-n.ensures c.if-z-lt0.true).is
+returns-then-z-lt0 c = (negative c.args.z c.unsigned_abs-n.result c.ranges.z c.requires c.unsigned_abs-n.ensures.value c.if-z-lt0.true).is
 
-pub returns : goal.returns
-returns c = not_negative c.args.z c.mag-n.result c.ranges.z c.requires c.mag-n.ensures c.if-z-lt0.false
+pub returns-else-z-lt0 : goal.returns-else-z-lt0
+returns-else-z-lt0 c = not_negative c.args.z c.unsigned_abs-n.result c.ranges.z c.requires c.unsigned_abs-n.ensures.value c.if-z-lt0.false

@@ -8,6 +8,6 @@ returns-then-x-eq0 c = not_more c.args.x c.args.h c.args.e c.args.d c.args.p c.i
 pub returns-then-e-eq0 : goal.returns-then-e-eq0
 returns-then-e-eq0 c = free c.args.x c.args.h c.args.e c.args.d c.args.p c.if-x-eq0.false c.if-e-eq0.true
 
-pub returns : goal.returns
-returns c = divided c.args.x c.args.h c.args.e c.args.d c.args.p
+pub returns-else-e-eq0 : goal.returns-else-e-eq0
+returns-else-e-eq0 c = divided c.args.x c.args.h c.args.e c.args.d c.args.p
     c.if-x-eq0.false c.if-e-eq0.false c.requires.0 c.requires.2

@@ -1,10 +1,12 @@
 -- `price_sure::answered` meets its contract.
-use mathlib.Core.Path.{sym, ap}
-use Rattle.price_change.specs.Sure.{said}
+use Rattle.std.proofs.Common.{◌≡◌, ℕ, Bool, true, false}
+use Rattle.std.specs.Int.{from_bool}
+use Rattle.price_change.specs.Sure.{SureOut, said}
 use Rattle.price_sure.proofs.answered.Goals as goal
 
-pub returns-then-yes : goal.returns-then-yes
-returns-then-yes c = sym (ap said c.if-yes.true)
+told : (b : Bool) {n : ℕ} → n ≡ from_bool b → ◌≡◌ {A = SureOut} (record { number = 0; place = 0; sure = n }) (said b)
+told true e = λ i. record { number = 0; place = 0; sure = e i }
+told false e = λ i. record { number = 0; place = 0; sure = e i }
 
-pub returns-else-yes : goal.returns-else-yes
-returns-else-yes c = sym (ap said c.if-yes.false)
+pub returns : goal.returns
+returns c = told c.args.yes c.from.ensures

@@ -1,4 +1,8 @@
+use mathlib.Core.Path.{◌≡◌, subst}
+use Prim.Native.Nat.{ℕ, ◌+◌}
 use native.Mathlib.Omega.{arith}
+use Rattle.text_decimal.specs.Put.{PutAt}
+use Rattle.convert_forms.specs.Forms.{copied, fitted}
 use Rattle.convert_forms.proofs.CutBytes.{fill_starts, fill_on, fill_ends}
 use Rattle.convert_forms.proofs.writing.put_fitted.Goals as goal
 
@@ -15,23 +19,19 @@ overflow_add-out c = omega (arith, c.requires.0, c.loop-j-test.true, c.well_form
 pub bounds-out-at : goal.bounds-out-at
 bounds-out-at c = omega (arith, c.requires.0, c.loop-j-test.true, c.loop-j.invariant.long)
 
-pub overflow_add-j : goal.overflow_add-j
-overflow_add-j c = omega (arith, c.loop-j-test.true, c.ranges)
-
-pub loop-j-smaller : goal.loop-j-smaller
-loop-j-smaller c = omega (arith, c.loop-j-test.true)
-
 pub loop-j-preserved : goal.loop-j-preserved
 loop-j-preserved c = fill_on c.args.out.now c.args.at c.args.model.now c.args.from c.args.size c.args.wanted c.requires.0
     c.loop-j.j c.operand_byte.result c.loop-j.out c.loop-j.invariant c.loop-j-test.true
     c.operand_byte.ensures
 
 pub overflow_add-result : goal.overflow_add-result
-overflow_add-result c = omega (arith, c.requires.0, c.loop-j.invariant.most)
+overflow_add-result c = omega (arith, c.requires.0, c.well_formed)
 
 pub shape_of-out : goal.shape_of-out
 shape_of-out c = c.loop-j.invariant.long
 
 pub returns : goal.returns
-returns c = fill_ends c.args.out.now c.args.at c.args.model.now c.args.from c.args.size c.args.wanted c.requires.0
-    c.loop-j.j c.loop-j.out c.loop-j.invariant c.loop-j-test.false
+returns c = let e : c.loop-j.j ≡ c.args.wanted = omega (arith, c.loop-j.invariant.most, c.loop-j-test.false) in
+    subst (λ (k : ℕ). PutAt c.args.out.now c.args.at (fitted c.args.wanted (copied c.args.model.now c.args.from c.args.size)) (c.args.at + k) c.loop-j.out) e
+    (fill_ends c.args.out.now c.args.at c.args.model.now c.args.from c.args.size c.args.wanted c.requires.0
+    c.loop-j.j c.loop-j.out c.loop-j.invariant c.loop-j-test.false)

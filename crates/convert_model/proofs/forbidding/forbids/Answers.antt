@@ -1,10 +1,8 @@
 use mathlib.Core.Bool.{true, false}
-use Prim.Native.Nat.{◌-◌}
 use native.Mathlib.Omega.{arith}
-use lib.ListN.{length}
 use Rattle.model_form.specs.Forms.{form_of}
 use Rattle.convert_forms.proofs.Pass.{goes}
-use Rattle.convert_model.proofs.ForbiddenSearch.{Searched, search_starts, search_found, search_ends, search_on, met}
+use Rattle.convert_model.proofs.ForbiddenSearch.{search_starts, search_found, search_ends, search_on, met}
 use Rattle.convert_model.proofs.forbidding.forbids.Goals as goal
 
 pub loop-form-init : goal.loop-form-init

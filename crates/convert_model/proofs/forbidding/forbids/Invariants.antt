@@ -1,12 +1,9 @@
 -- `convert_model::forbidding::forbids` meets its contract: the readings from `at` on forbid where all of them do (`Searched`); the search ends at the
 -- first forbidden leaf or at the last command, and else `at` grows within the model.
-use mathlib.Core.Bool.{true, false}
 use Prim.Native.Nat.{◌-◌}
-use native.Mathlib.Omega.{arith}
 use lib.ListN.{length}
 use Rattle.model_form.specs.Forms.{form_of}
-use Rattle.convert_forms.proofs.Pass.{goes}
-use Rattle.convert_model.proofs.ForbiddenSearch.{Searched, search_starts, search_found, search_ends, search_on, met}
+use Rattle.convert_model.proofs.ForbiddenSearch.{Searched}
 use Rattle.convert_model.proofs.forbidding.forbids.Given as goal
 
 abbrev pub invariant-loop-form : goal.invariant-loop-form

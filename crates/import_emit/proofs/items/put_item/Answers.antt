@@ -2,15 +2,17 @@
 use borrow.Author.Rules.{rules}
 use Rattle.import_emit.proofs.Part.{cases_full, cases_then}
 use Rattle.import_emit.proofs.Puts.{inside}
+use mathlib.Core.Path.{refl}
+use Rattle.std.proofs.lemmas.Result.{err_from_is_err_and}
 use Rattle.import_emit.proofs.items.put_item.Goals as goal
 
-pub returns-then-e : goal.returns-then-e
-returns-then-e c = cases_full c.emit_cases-e.ensures c.if-e.true
+pub returns-in_err-behind : goal.returns-in_err-behind
+returns-in_err-behind c = let p = err_from_is_err_and c.from_residual.result c.from_residual.ensures.1 in rw p.1 (cases_full c.in_err-behind.ensures refl)
 
 pub put_slot-requires : goal.put_slot-requires
 put_slot-requires c = let p = c.requires in
     let b = p.begins in
-    record { action = p.action; room = inside b.room ((c.emit_cases-e.ensures.commands b.commands b.emits).put c.if-e.false) }
+    record { action = p.action; room = inside b.room ((c.in_ok-behind.ensures.commands b.commands b.emits).put refl) }
 
 pub returns : goal.returns
-returns c = cases_then c.emit_cases-e.ensures c.requires.begins.room c.if-e.false c.put_slot.ensures
+returns c = cases_then c.in_ok-behind.ensures c.requires.begins.room refl c.put_slot.ensures

@@ -7,10 +7,10 @@ use Rattle.import_emit.proofs.items.put_slot.Goals as goal
 
 pub returns-then-out-at : goal.returns-then-out-at
 returns-then-out-at c = let o = c.args.o in
-    record { same = refl; put = fits_not refl (omega (arith, c.slot_len-n.ensures o.action o.index, c.if-out-at.true)) }
+    record { same = refl; put = fits_not refl (omega (arith, c.slot_len.ensures o.action o.index, c.if-out-at.true)) }
 
-pub put_given-behind-requires : goal.put_given-behind-requires
-put_given-behind-requires c = omega (arith, c.slot_len-n.ensures c.args.o.action c.args.o.index, c.if-out-at.false, c.requires.room)
+pub put_given-requires : goal.put_given-requires
+put_given-requires c = omega (arith, c.slot_len.ensures c.args.o.action c.args.o.index, c.if-out-at.false, c.requires.room)
 
 pub returns : goal.returns
-returns c = record { same = c.put_given-behind.auto.out; put = fits refl c.put_given-behind.ensures }
+returns c = record { same = c.put_given.auto.out; put = fits refl c.put_given.ensures }

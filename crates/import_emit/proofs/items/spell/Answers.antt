@@ -10,7 +10,7 @@ pub loop-j-init : goal.loop-j-init
 loop-j-init c = record { upto = omega arith; long = refl; each = λ k h. absurd (omega arith) }
 
 pub loop-j-preserved : goal.loop-j-preserved
-loop-j-preserved c = spell_on c.loop-j.invariant c.loop-j-test.true c.name_byte-k.ensures
+loop-j-preserved c = spell_on c.loop-j.invariant c.loop-j-test.true c.name_byte.ensures
 
 pub returns : goal.returns
 returns c = spelt_all c.loop-j.invariant c.loop-j-test.false

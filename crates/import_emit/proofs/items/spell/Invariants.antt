@@ -9,6 +9,3 @@ use Rattle.import_emit.proofs.items.spell.Given as goal
 
 abbrev pub invariant-loop-j : goal.invariant-loop-j
 invariant-loop-j l = Spelling l.text l.from l.name l.j
-
-abbrev pub decreases-loop-j : goal.decreases-loop-j
-decreases-loop-j l = name_bytes - l.j

@@ -1,21 +1,17 @@
 use mathlib.Core.Path.{sym, ◌∙◌, refl}
-use Prim.Native.Nat.{◌-◌}
 use native.Mathlib.Omega.{arith}
-use lib.ListN.{length, drop}
-use borrow.Author.Rules.{rules}
-use Rattle.import_found.specs.Places.{is_cond}
-use Rattle.import_going.proofs.Steps.{Seeing, on_seen, on_depth, seen_end}
+use Rattle.import_going.proofs.Steps.{on_seen, on_depth, seen_end}
 use Rattle.import_going.proofs.bracket.is_cond.Goals as goal
 
 pub loop-i-init : goal.loop-i-init
 loop-i-init c = record { within = c.requires.0; shallows = omega arith; rest = refl }
 
-pub see-s-requires : goal.see-s-requires
-see-s-requires c = let a = c.loop-i.invariant.shallows in let b = c.loop-i.invariant.within in omega (arith, c.requires.1)
+pub see-requires : goal.see-requires
+see-requires c = let a = c.loop-i.invariant.shallows in let b = c.loop-i.invariant.within in omega (arith, c.requires.1)
 
 pub loop-i-preserved : goal.loop-i-preserved
-loop-i-preserved c = let e = sym c.in-On.is ∙ c.see-s.ensures in
-    let d = on_depth c.loop-i.depth c.in-On.d _ e in
+loop-i-preserved c = let e = sym c.in-Continue.is ∙ c.see.ensures in
+    let d = on_depth c.loop-i.depth c.in-Continue.d _ e in
     let h = c.loop-i.invariant.shallows in
     record {
       within = omega (arith, c.loop-i-test.true);
@@ -23,8 +19,8 @@ loop-i-preserved c = let e = sym c.in-On.is ∙ c.see-s.ensures in
       rest = sym (on_seen _ c.loop-i.depth c.loop-i.i _ c.loop-i-test.true e) ∙ c.loop-i.invariant.rest;
     }
 
-pub returns-in-Is : goal.returns-in-Is
-returns-in-Is c = sym (on_seen _ c.loop-i.depth c.loop-i.i _ c.loop-i-test.true (sym c.in-Is.is ∙ c.see-s.ensures)) ∙ c.loop-i.invariant.rest
+pub returns-in-Break : goal.returns-in-Break
+returns-in-Break c = sym (on_seen _ c.loop-i.depth c.loop-i.i _ c.loop-i-test.true (sym c.in-Break.is ∙ c.see.ensures)) ∙ c.loop-i.invariant.rest
 
 pub returns : goal.returns
 returns c = seen_end _ _ c.loop-i.depth c.loop-i.i c.loop-i.invariant c.loop-i-test.false

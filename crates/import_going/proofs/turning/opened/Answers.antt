@@ -1,7 +1,6 @@
 use native.Mathlib.Omega.{arith}
 use Rattle.import_places.specs.laws.Signs.{mask_bound}
 use Rattle.import_going.proofs.Reaching.{bit_most, too_deep, not_deep}
-use borrow.Author.Rules.{rules}
 use Rattle.import_going.proofs.turning.opened.Goals as goal
 
 pub returns-then-s-ge-DEEPEST : goal.returns-then-s-ge-DEEPEST
@@ -11,7 +10,7 @@ pub overflow_mul-result : goal.overflow_mul-result
 overflow_mul-result c = omega (arith, mask_bound _ _ c.requires (omega (arith, c.if-s-ge-DEEPEST.false)))
 
 pub overflow_add-result : goal.overflow_add-result
-overflow_add-result c = omega (arith, mask_bound _ _ c.requires (omega (arith, c.if-s-ge-DEEPEST.false)), c.bit-low.ensures, bit_most c.args.s.sign)
+overflow_add-result c = omega (arith, mask_bound _ _ c.requires (omega (arith, c.if-s-ge-DEEPEST.false)), c.from.ensures, bit_most c.args.s.sign)
 
 pub returns : goal.returns
-returns c = not_deep _ _ c.if-s-ge-DEEPEST.false c.bit-low.ensures
+returns c = not_deep _ _ c.if-s-ge-DEEPEST.false c.from.ensures

@@ -1,5 +1,4 @@
 use Rattle.import_walk.proofs.Joined.{name_joined}
-use borrow.Author.Rules.{rules}
 use Rattle.import_walk.proofs.name.end_of_name.Goals as goal
 
 pub returns : goal.returns

@@ -1,5 +1,4 @@
 use Rattle.import_walk.proofs.Joined.{byte_joined}
-use borrow.Author.Rules.{rules}
 use Rattle.import_walk.proofs.name.name_byte.Goals as goal
 
 pub returns : goal.returns

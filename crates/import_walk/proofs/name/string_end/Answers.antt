@@ -1,4 +1,3 @@
-use borrow.Author.Rules.{rules}
 use Rattle.import_walk.proofs.name.string_end.Goals as goal
 
 pub returns : goal.returns

@@ -1,5 +1,4 @@
 use Rattle.import_walk.proofs.Joined.{action_joined}
-use borrow.Author.Rules.{rules}
 use Rattle.import_walk.proofs.opening.action_at.Goals as goal
 
 pub returns : goal.returns

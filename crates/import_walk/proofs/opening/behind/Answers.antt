@@ -1,5 +1,4 @@
 use Rattle.import_walk.proofs.Joined.{behind_name, behind_other}
-use borrow.Author.Rules.{rules}
 use Rattle.import_walk.proofs.opening.behind.Goals as goal
 
 pub returns-then-kind-eq-NAME : goal.returns-then-kind-eq-NAME

@@ -1,7 +1,6 @@
 -- `import_walk::opening::opening_at` meets its contract: each part is a call's contract on the parts before it (`opening_joined`).
 use mathlib.Core.Path.{refl}
 use Rattle.import_walk.proofs.Joined.{opening_joined}
-use borrow.Author.Rules.{rules}
 use Rattle.import_walk.proofs.opening.opening_at.Goals as goal
 
 pub returns : goal.returns

@@ -1,9 +1,6 @@
 use mathlib.Core.Path.{refl, sym, ◌∙◌}
-use Prim.Native.Nat.{◌-◌}
 use native.Mathlib.Omega.{arith}
-use lib.ListN.{length}
-use borrow.Author.Rules.{rules}
-use Rattle.import_walk.proofs.Loops.{Scanning, scan_on, scan_here, scan_end}
+use Rattle.import_walk.proofs.Loops.{scan_on, scan_here, scan_end}
 use Rattle.import_walk.proofs.scan.scan.Goals as goal
 
 pub loop-i-init : goal.loop-i-init

@@ -1,6 +1,5 @@
 use mathlib.Core.Path.{refl}
 use Rattle.import_walk.proofs.Joined.{site_joined}
-use borrow.Author.Rules.{rules}
 use Rattle.import_walk.proofs.site.header_at.Goals as goal
 
 pub returns : goal.returns

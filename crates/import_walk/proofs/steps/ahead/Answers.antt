@@ -1,5 +1,4 @@
 use Rattle.import_walk.proofs.Loops.{ahead_in, ahead_out}
-use borrow.Author.Rules.{rules}
 use Rattle.import_walk.proofs.steps.ahead.Goals as goal
 
 pub returns-then-n-left : goal.returns-then-n-left

@@ -1,5 +1,4 @@
 use Rattle.import_walk.proofs.Joined.{item_joined}
-use borrow.Author.Rules.{rules}
 use Rattle.import_walk.proofs.steps.end_of_item.Goals as goal
 
 pub returns : goal.returns

@@ -1,4 +1,3 @@
-use borrow.Author.Rules.{rules}
 use Rattle.import_walk.proofs.steps.next_letter.Goals as goal
 
 pub returns : goal.returns
