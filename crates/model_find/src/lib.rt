@@ -30,7 +30,7 @@ pub struct Found {
     pub action: u32,
 }
 
-// Who carries a name, of the commands so far.
+// Who carries a name, of the commands so far. No Result: none of the three is a failure before the pass is over.
 #[derive(Clone, Copy)]
 enum Bearers {
     Nobody,
