@@ -5,21 +5,20 @@ use Prim.Native.Nat.{ℕ, ◌*◌, ◌≤◌, ◌<◌}
 use native.Mathlib.Omega.{arith}
 use lib.IntN.{ℤ}
 use lib.ListN.{length, get_or}
-use Rattle.table.specs.declared.Made.{Made}
 use Rattle.table.specs.declared.Node.{Node}
 use Rattle.theory.specs.Computation.{Comp}
 use Rattle.theory.specs.Diagram.{Tree}
 use Rattle.table_unique.specs.Unique.{work_words, last_of}
 use Rattle.rule_node.specs.Nodes.{Proper}
 use Rattle.rule_node.specs.Roots.{condition_node}
-use Rattle.table.specs.Table.{node_words}
+use Rattle.table.specs.Table.{Answer, count_of, node_words}
 use Rattle.rule_node.specs.Table.{Table, Grew}
 use Rattle.rule_node.specs.EntryMeaning.{rule_of}
 use Rattle.rule_unary_node.specs.Acts.{Acts}
 use Rattle.rule_node.proofs.Outcomes.{lifted, fresh}
 use Rattle.rule_node.proofs.Meanings.{stood_condition}
 
-pub grew : {cap n : ℕ} {l l₁ : List ℤ} {w w₁ : List ℕ} {m : Comp Tree} {r : Made} → Table rule_of cap l w n → Grew cap l w n m l₁ w₁ r → Table rule_of cap l₁ w₁ r.count
+pub grew : {cap n : ℕ} {l l₁ : List ℤ} {w w₁ : List ℕ} {m : Comp Tree} {r : Answer} → Table rule_of cap l w n → Grew cap l w n m l₁ w₁ r → Table rule_of cap l₁ w₁ (count_of r)
 grew A Q = (lifted A Q).table
 
 -- no nodes yet

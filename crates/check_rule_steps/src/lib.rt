@@ -16,10 +16,9 @@ pub struct Step {
     pub c: i64,
 }
 
-// The numbers of a rule, where those that are written fit it.
+// The numbers of a rule.
 #[derive(Clone, Copy)]
 pub struct Numbers {
-    pub fits: bool,
     pub p: usize,
     pub q: usize,
 }

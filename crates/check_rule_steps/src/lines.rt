@@ -1,8 +1,11 @@
 // Rows of four numbers read as steps, outcomes printed as lines.
 use super::Step;
 use std::io;
-use table::{Made, NODE_WORDS};
+use table::{Made, NODE_WORDS, Stopped};
 use whole::limits::mag;
+
+// The number of a step that asks for what is not there.
+const UNKNOWN: usize = 255;
 
 // No table has this index.
 const NOWHERE: usize = 65535;
@@ -59,15 +62,13 @@ pub fn step_at(rows: &[i64], results: &[usize], at: usize) -> Step {
 }
 
 // Keeps the node that a line came to.
-pub fn save(results: &mut [usize], line: usize, r: Made) {
-    if line >= results.len() {
-        return;
+pub fn save(results: &mut [usize], line: usize, r: Option<Result<Made, Stopped>>) {
+    if line < results.len() {
+        results[line] = match r {
+            Some(Ok(made)) => made.at,
+            _ => NOWHERE,
+        };
     }
-    if r.stop != 0 {
-        results[line] = NOWHERE;
-        return;
-    }
-    results[line] = r.at;
 }
 
 fn print_signed(rt: &impl Print, z: i64) -> io::Result<()> {
@@ -87,10 +88,8 @@ fn print_node(rt: &impl Print, nodes: &[i64], at: usize) -> io::Result<()> {
     if at >= NOWHERE {
         return Ok(());
     }
-    let mut i: usize = 0;
-    while i < NODE_WORDS {
+    for i in 0..NODE_WORDS {
         print_word(rt, nodes, at * NODE_WORDS + i)?;
-        i += 1;
     }
     Ok(())
 }
@@ -107,11 +106,21 @@ fn print_at(rt: &impl Print, nodes: &[i64], at: usize) -> io::Result<()> {
 }
 
 // A line: the refusal's number, the count of nodes, and the node that the step came to with its words.
-pub fn print(rt: &impl Print, nodes: &[i64], r: Made) -> io::Result<()> {
-    rt.print(r.stop as u64)?;
-    print_spaced(rt, r.count as u64)?;
-    if r.stop == 0 {
-        print_at(rt, nodes, r.at)?;
+pub fn print(
+    rt: &impl Print,
+    nodes: &[i64],
+    count: usize,
+    r: Option<Result<Made, Stopped>>,
+) -> io::Result<()> {
+    let stop = match r {
+        Some(Ok(_)) => 0,
+        Some(Err(s)) => s.why.number(),
+        None => UNKNOWN,
+    };
+    rt.print(stop as u64)?;
+    print_spaced(rt, count as u64)?;
+    if let Some(Ok(made)) = r {
+        print_at(rt, nodes, made.at)?;
     }
     rt.write_all(b"\n")
 }

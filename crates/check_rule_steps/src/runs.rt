@@ -2,11 +2,23 @@
 ghost use Rattle.std.specs.Prelude.{◌≡◌, true, ℕ, ◌≤◌, ◌<◌, length, get_or, IfOk, OnErr};
 ghost use Rattle.rule_node.specs.Table.{Table};
 ghost use Rattle.rule_node.specs.EntryMeaning.{rule_of};
+ghost use Rattle.check_rule_steps.specs.Steps.{nodes_after};
 
 use super::lines;
 use super::rules::step;
 use std::io;
-use table::Made;
+use table::{Made, Stopped};
+
+// How many nodes there are after a step on a table of so many.
+fn after(count: usize, r: Option<Result<Made, Stopped>>) -> usize
+    ensures { result ≡ nodes_after count r }
+{
+    match r {
+        Some(Ok(made)) => made.count,
+        Some(Err(s)) => s.count,
+        None => count,
+    }
+}
 
 // The step of a row, its line printed and its node kept. Where the line is not printed, the step is done and its node is not kept.
 fn line(
@@ -18,16 +30,17 @@ fn line(
     rows: &[i64],
     results: &mut [usize],
     i: usize,
-) -> io::Result<Made>
+) -> io::Result<usize>
     requires { Table rule_of cap nodes.old work.old count × (i ≤ 1000) }
-    ensures ok { IfOk result (λ made. Table rule_of cap nodes.new work.new made.count) }
+    ensures ok { IfOk result (λ made. Table rule_of cap nodes.new work.new made) }
     ensures err { OnErr result ((made : ℕ) × Table rule_of cap nodes.new work.new made × (results.new ≡ results.old)) }
 {
     let s = lines::step_at(rows, results, i * 4);
     let r = step(nodes, work, cap, count, s);
-    lines::print(rt, nodes, r)?;
+    let made = after(count, r);
+    lines::print(rt, nodes, made, r)?;
     lines::save(results, i, r);
-    Ok(r)
+    Ok(made)
 }
 
 // The rows in turn, at most 1,000.
@@ -41,15 +54,9 @@ fn each(
 ) -> io::Result<()>
     requires { Table rule_of cap nodes.old work.old 0 }
 {
-    let mut count: usize = 0;
-    let mut i: usize = 0;
-    while i < 1000 {
-        if i >= rows.len() / 4 {
-            return Ok(());
-        }
-        let r = line(rt, nodes, work, cap, count, rows, results, i)?;
-        count = r.count;
-        i += 1;
+    let mut count = 0;
+    for i in 0..(rows.len() / 4).min(1000) {
+        count = line(rt, nodes, work, cap, count, rows, results, i)?;
     }
     Ok(())
 }
@@ -58,12 +65,10 @@ fn each(
 fn all_zero(work: &[u32]) -> bool
     ensures { result ≡ true → (k : ℕ) → k < length work.now → get_or work.now k 0 ≡ 0 }
 {
-    let mut i = 0;
-    while i < work.len() {
+    for i in 0..work.len() {
         if work[i] != 0 {
             return false;
         }
-        i += 1;
     }
     true
 }

@@ -12,10 +12,10 @@ use lib.ListN.{length, get_or, set, replicate}
 use lib.Seq.{get_or-set_same, get_or-set_other}
 use mir.Syntax.{w64}
 use mir.Val.{to_z}
+use Rattle.table.specs.Table.{Answer}
 use Rattle.whole.specs.Linears.{coefficients, numbers}
 use Rattle.whole.specs.Within.{Small}
 use Rattle.whole.proofs.Signed.{plain}
-use Rattle.table.specs.declared.Made.{Made}
 use Rattle.theory.specs.Computation.{Comp}
 use Rattle.theory.specs.Diagram.{Tree}
 use Rattle.rule_node.specs.Nodes.{Proper}
@@ -26,14 +26,14 @@ use Rattle.rule_node.proofs.Outcomes.{lifted}
 use Rattle.rule_node.proofs.Meanings.{proper_linear}
 use Rattle.check_rules.specs.Held.{cap, RulesHeld}
 
-pub held : {l l₁ : List ℤ} {w w₁ : List ℕ} {n : ℕ} {m : Comp Tree} {r : Made} → RuleRan rule_of cap l w n m l₁ w₁ r → RulesHeld n l₁ w₁ r
+pub held : {l l₁ : List ℤ} {w w₁ : List ℕ} {n : ℕ} {m : Comp Tree} {r : Answer} → RuleRan rule_of cap l w n m l₁ w₁ r → RulesHeld n l₁ w₁ r
 held Q = record { table = Q.table; within = Q.within; more = Q.more }
 
-pub held_grew : {l l₁ : List ℤ} {w w₁ : List ℕ} {n : ℕ} {m : Comp Tree} {r : Made} → Table rule_of cap l w n → Grew cap l w n m l₁ w₁ r → RulesHeld n l₁ w₁ r
+pub held_grew : {l l₁ : List ℤ} {w w₁ : List ℕ} {n : ℕ} {m : Comp Tree} {r : Answer} → Table rule_of cap l w n → Grew cap l w n m l₁ w₁ r → RulesHeld n l₁ w₁ r
 held_grew A Q = held (lifted A Q)
 
 -- one step after another
-pub held_on : {n m : ℕ} {l : List ℤ} {w : List ℕ} {r : Made} → n ≤ m → RulesHeld m l w r → RulesHeld n l w r
+pub held_on : {n m : ℕ} {l : List ℤ} {w : List ℕ} {r : Answer} → n ≤ m → RulesHeld m l w r → RulesHeld n l w r
 held_on h H = record { table = H.table; within = H.within; more = le_trans h H.more }
 
 plain_small : (a : ℕ) → a ≤ 1000000 → Small (to_z w64 a)

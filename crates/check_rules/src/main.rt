@@ -2,14 +2,15 @@
 #![tactic(auto)]
 
 ghost use Rattle.std.specs.Prelude.{◌≤◌, ◌<◌, IfOk, OnErr};
+ghost use Rattle.table.specs.Table.{Answer};
 ghost use Rattle.rule_node.specs.Table.{Table};
 ghost use Rattle.rule_node.specs.EntryMeaning.{rule_of};
 ghost use Rattle.check_rules.specs.Held.{cap, RulesHeld};
 
-use rule_apply::merge;
+use rule_apply::{Merge, merge};
 use rule_node::making::{join_test, make_leaf};
 use std::io;
-use table::{Made, NODE_WORDS, Node};
+use table::{LEAF, Made, NODE_WORDS, Node, Stopped};
 use table_unique::WORK_WORDS;
 use whole::{COEFFICIENTS, NUMBERS};
 
@@ -19,14 +20,14 @@ const CAP: usize = 49152;
 const TESTS: usize = 750;
 
 // A leaf without coefficients.
-fn leaf(nodes: &mut [i64], work: &mut [u32], count: usize, value: usize) -> Made
+fn leaf(nodes: &mut [i64], work: &mut [u32], count: usize, value: usize) -> Result<Made, Stopped>
     requires { Table rule_of cap nodes.old work.old count × (value ≤ 1000000) }
     ensures { RulesHeld count nodes.new work.new result }
 {
     let mut n = [0i64; NUMBERS];
     n[COEFFICIENTS] = value as i64;
     let s = Node {
-        kind: 0,
+        kind: LEAF,
         n,
         high: 0,
         low: 0,
@@ -42,14 +43,11 @@ fn stair(
     at: usize,
     value: usize,
     below: usize,
-) -> Made
+) -> Result<Made, Stopped>
     requires { Table rule_of cap nodes.old work.old count × (at ≤ 1000000) × (value ≤ 1000000) × (below < count) }
     ensures { RulesHeld count nodes.new work.new result }
 {
-    let l = leaf(nodes, work, count, value);
-    if l.stop != 0 {
-        return l;
-    }
+    let l = leaf(nodes, work, count, value)?;
     let mut n = [0i64; NUMBERS];
     n[0] = 1;
     n[COEFFICIENTS] = at as i64;
@@ -70,29 +68,24 @@ fn stairs(
     from: usize,
     value: usize,
     values: usize,
-) -> Made
+) -> Result<Made, Stopped>
     requires { Table rule_of cap nodes.old work.old count × (from ≤ 1000) × (value ≤ 1000) × (0 < values) }
     ensures { RulesHeld count nodes.new work.new result }
 {
-    let mut f = leaf(nodes, work, count, value + TESTS);
-    let mut i = 0;
-    while i < TESTS {
-        if f.stop != 0 {
-            return f;
-        }
-        let n = f.count;
-        let below = f.at;
+    let mut f = leaf(nodes, work, count, value + TESTS)?;
+    for i in 0..TESTS {
         let at = from + (TESTS - i) * 2;
-        f = stair(nodes, work, n, at, value + i % values, below);
-        i += 1;
+        f = stair(nodes, work, f.count, at, value + i % values, f.at)?;
     }
-    f
+    Ok(f)
 }
 
 // A line for a step.
-fn show(rt: &impl Print, r: Made) -> io::Result<()> {
-    let stop = r.stop;
-    let count = r.count;
+fn show(rt: &impl Print, r: Result<Made, Stopped>) -> io::Result<()> {
+    let (stop, count) = match r {
+        Ok(made) => (0, made.count),
+        Err(s) => (s.why.number(), s.count),
+    };
     println!(rt; "{stop} {count}")
 }
 
@@ -102,25 +95,25 @@ fn pair(
     nodes: &mut [i64],
     work: &mut [u32],
     count: usize,
-    op: usize,
+    rule: Merge,
     value: usize,
     values: usize,
-) -> io::Result<Made>
-    requires { Table rule_of cap nodes.old work.old count × (op ≤ 2) × (value ≤ 1000) × (0 < values) }
+) -> io::Result<Result<Made, Stopped>>
+    requires { Table rule_of cap nodes.old work.old count × (value ≤ 1000) × (0 < values) }
     ensures ok { IfOk result (λ made. RulesHeld count nodes.new work.new made) }
-    ensures err { OnErr result ((made : Made) × RulesHeld count nodes.new work.new made) }
+    ensures err { OnErr result ((made : Answer) × RulesHeld count nodes.new work.new made) }
 {
-    let f = stairs(nodes, work, count, 0, value, values);
-    show(rt, f)?;
-    if f.stop != 0 {
-        return Ok(f);
-    }
-    let g = stairs(nodes, work, f.count, 1, 0, values);
-    show(rt, g)?;
-    if g.stop != 0 {
-        return Ok(g);
-    }
-    let r = merge(nodes, work, CAP, g.count, op, f.at, g.at);
+    let first = stairs(nodes, work, count, 0, value, values);
+    show(rt, first)?;
+    let Ok(f) = first else {
+        return Ok(first);
+    };
+    let second = stairs(nodes, work, f.count, 1, 0, values);
+    show(rt, second)?;
+    let Ok(g) = second else {
+        return Ok(second);
+    };
+    let r = merge(nodes, work, CAP, g.count, rule, f.at, g.at);
     show(rt, r)?;
     Ok(r)
 }
@@ -129,15 +122,13 @@ fn pair(
 fn all(rt: &impl Print, nodes: &mut [i64], work: &mut [u32]) -> io::Result<()>
     requires { Table rule_of cap nodes.old work.old 0 }
 {
-    let a = pair(rt, nodes, work, 0, 2, 1000, 1000)?;
-    if a.stop != 0 {
+    let Ok(a) = pair(rt, nodes, work, 0, Merge::Best, 1000, 1000)? else {
         return Ok(());
-    }
-    let b = pair(rt, nodes, work, a.count, 0, 0, 20)?;
-    if b.stop != 0 {
+    };
+    let Ok(b) = pair(rt, nodes, work, a.count, Merge::Sum, 0, 20)? else {
         return Ok(());
-    }
-    pair(rt, nodes, work, b.count, 0, 1000, 1000)?;
+    };
+    let _ = pair(rt, nodes, work, b.count, Merge::Sum, 1000, 1000)?;
     Ok(())
 }
 

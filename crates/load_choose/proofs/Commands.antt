@@ -4,9 +4,8 @@ use mathlib.Core.List.{List}
 use Prim.Native.Nat.{ℕ, ◌<◌}
 use native.Mathlib.Omega.{arith}
 use lib.IntN.{ℤ}
-use Rattle.table.specs.Table.{node_at}
+use Rattle.table.specs.Table.{node_at, Answer, stop_of, at_of, made}
 use Rattle.table.specs.declared.Node.{Node}
-use Rattle.table.specs.declared.Made.{Made}
 use Rattle.theory.specs.Diagram.{Test}
 use Rattle.theory.specs.Rules.{choose, node}
 use Rattle.rule_node.specs.declared.Sides.{Sides}
@@ -39,20 +38,20 @@ module _ {B : List ℕ} {cap : ℕ} {l : List ℤ} {w : List ℕ} {n : ℕ} (A :
   choice_goes {z} S d = chooses_as A.bare.good z S.proper.tested S.test f g hf hg d
 
   -- the test is first
-  pub choice_ends : {z : Node} {s : Sides} {l₁ : List ℤ} {w₁ : List ℕ} {r : Made} → Here l n (test_at B at) f g s → Stood (test_at B at) z → Grew cap l w n
+  pub choice_ends : {z : Node} {s : Sides} {l₁ : List ℤ} {w₁ : List ℕ} {r : Answer} → Here l n (test_at B at) f g s → Stood (test_at B at) z → Grew cap l w n
       (node (test_held z) (tree_at l n s.fh) (tree_at l n s.gl)) l₁ w₁ r → RuleRan (load_rule B) cap l w n (choose (test_at B at) (tree_at l n f) (tree_at l n g)) l₁ w₁ r
   choice_ends {s = s} o S Q = ran_as (sym o.is) (lifted A (grew_as (ap (λ (t : Test). node t (tree_at l n s.fh) (tree_at l n s.gl)) S.test) Q))
 
   -- an entry answers
-  pub choice_answered : (k : ℕ) → CacheEntry w (slot_of cap 13 f g at 0) 13 f g at 0 k → RuleRan (load_rule B) cap l w n (choose (test_at B at) (tree_at l n f) (tree_at l n g)) l w (record { stop = 0; at = k; count = n })
+  pub choice_answered : (k : ℕ) → CacheEntry w (slot_of cap 13 f g at 0) 13 f g at 0 k → RuleRan (load_rule B) cap l w n (choose (test_at B at) (tree_at l n f) (tree_at l n g)) l w (made k n)
   choice_answered k E = ran_as (rule_is B l n 13 f g at 0) (answered A 13 f g at 0 k E)
 
   lasts : Lasting (load_rule B) l n 13 f g at 0
   lasts l' n' D = rule_is B l' n' 13 f g at 0 ∙ (ap₂ (choose (test_at B at)) (trees_kept D f hf) (trees_kept D g hg) ∙ sym (rule_is B l n 13 f g at 0))
 
   -- a result is kept
-  pub choice_stored : {l' : List ℤ} {w' w'' : List ℕ} {r : Made} → RuleRan (load_rule B) cap l w n (choose (test_at B at) (tree_at l n f) (tree_at l n g)) l' w' r
-      → r.stop ≡ 0 → w'' ≡ store_of w' (slot_of cap 13 f g at 0) 13 f g at 0 r.at → RuleRan (load_rule B) cap l w n
+  pub choice_stored : {l' : List ℤ} {w' w'' : List ℕ} {r : Answer} → RuleRan (load_rule B) cap l w n (choose (test_at B at) (tree_at l n f) (tree_at l n g)) l' w' r
+      → stop_of r ≡ 0 → w'' ≡ store_of w' (slot_of cap 13 f g at 0) 13 f g at 0 (at_of r) → RuleRan (load_rule B) cap l w n
       (choose (test_at B at) (tree_at l n f) (tree_at l n g)) l' w'' r
   choice_stored Q ok e =
       let q = rule_is B l n 13 f g at 0 in

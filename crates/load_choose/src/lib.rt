@@ -13,7 +13,7 @@ use rule_choose::roots::choice_at;
 use rule_node::codes::CHOOSE_COMMAND;
 use rule_node::making::{join, join_test};
 use rule_tests::{condition, named};
-use table::{Made, Node};
+use table::{Made, Node, Stopped};
 use table_cache::{keep, look};
 use whole::NUMBERS;
 
@@ -55,7 +55,7 @@ pub fn choose_command(
     at: usize,
     f: usize,
     g: usize,
-) -> Made
+) -> Result<Made, Stopped>
     requires { Table (load_rule model.now) cap nodes.old work.old count × Testing model.now at × (f < count) × (g < count) }
     ensures { RuleRan (load_rule model.now) cap nodes.old work.old count (choose (test_at model.now at) (tree_at nodes.old count f) (tree_at nodes.old count g)) nodes.new work.new result }
 {
@@ -63,26 +63,12 @@ pub fn choose_command(
     if s.ends {
         return join_test(nodes, work, cap, count, test_from(model, at), s.fh, s.gl);
     }
-    let c = look(work, cap, CHOOSE_COMMAND, f, g, at, 0);
-    if c != 0 {
-        return Made {
-            stop: 0,
-            at: c - 1,
-            count,
-        };
+    if let Some(at) = look(work, cap, CHOOSE_COMMAND, f, g, at, 0) {
+        return Ok(Made { at, count });
     }
-    let h = choose_command(model, nodes, work, cap, count, at, s.fh, s.gh);
-    if h.stop != 0 {
-        return h;
-    }
-    let l = choose_command(model, nodes, work, cap, h.count, at, s.fl, s.gl);
-    if l.stop != 0 {
-        return l;
-    }
-    let r = join(nodes, work, cap, l.count, s.root, h.at, l.at);
-    if r.stop != 0 {
-        return r;
-    }
+    let h = choose_command(model, nodes, work, cap, count, at, s.fh, s.gh)?;
+    let l = choose_command(model, nodes, work, cap, h.count, at, s.fl, s.gl)?;
+    let r = join(nodes, work, cap, l.count, s.root, h.at, l.at)?;
     keep(work, cap, CHOOSE_COMMAND, f, g, at, 0, r.at);
-    r
+    Ok(r)
 }

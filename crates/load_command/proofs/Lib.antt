@@ -1,2 +1,3 @@
 -- Laws of the commands on the stack.
+pub mod Puts
 pub mod Steps

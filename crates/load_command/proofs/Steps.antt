@@ -1,5 +1,6 @@
 -- A command's work on the table and the stack, put together.
 use mathlib.Core.Path.{◌≡◌, refl, sym, ap, ap₂, ◌∙◌, subst}
+use Rattle.table.specs.Table.{Answer, stop_of, at_of, count_of}
 use mathlib.Core.Bool.{Bool}
 use mathlib.Core.List.{List, [], ◌∷◌}
 use Prim.Native.Nat.{ℕ, suc, ◌+◌, ◌-◌, ◌≤◌, ◌<◌}
@@ -11,7 +12,6 @@ use lib.ListN.{length, get_or, drop}
 use Rattle.whole.specs.Cases.{if}
 use Rattle.table.proofs.Leaf.{leaf_as, some_as, leaf_not, some_not}
 use Rattle.table.specs.declared.Node.{Node}
-use Rattle.table.specs.declared.Made.{Made}
 use Rattle.whole.specs.Linears.{Smalls}
 use Rattle.theory.specs.Widths.{stack_most, conditions_most}
 use Rattle.theory.specs.Form.{new_form}
@@ -79,18 +79,18 @@ next_below n (i ∷ j ∷ K) h b = b.1.0
 
 -- ---- something made, and put on the stack
 
-module _ (B : List ℕ) {cap : ℕ} {l : List ℤ} {w : List ℕ} {n : ℕ} (K : List ℕ) (c : Command) (H : List ℕ) {m : Comp Tree} {l' : List ℤ} {w' : List ℕ} {k : Made} {r : Loaded}
+module _ (B : List ℕ) {cap : ℕ} {l : List ℤ} {w : List ℕ} {n : ℕ} (K : List ℕ) (c : Command) (H : List ℕ) {m : Comp Tree} {l' : List ℤ} {w' : List ℕ} {k : Answer} {r : Loaded}
     (Q : RuleRan (load_rule B) cap l w n m l' w' k) (P : PutMade H k r) (b : NumbersBelow n H) (room : length H < stack_most) (up : suc (length H) ≡ height c (length K))
     (is : (E : List Entry) → load_one c (loading (standing l n K) E) ≡ bind m (λ t. ret (loading (t ∷ standing l n H) E)))
     (same : (E : List Entry) → entered c (standing l n K) E ≡ E) where
   grown_r : Grown l n l' r.count
   grown_r = subst (Grown l n l') (sym P.count) (grown Q)
 
-  stack_is : r.stop ≡ 0 → held r.stack ≡ k.at ∷ H
-  stack_is ok = P.stack (sym P.stop ∙ ok) ∙ pushed_on k.at H room
+  stack_is : r.stop ≡ 0 → held r.stack ≡ at_of k ∷ H
+  stack_is ok = P.stack (sym P.stop ∙ ok) ∙ pushed_on (at_of k) H room
 
-  in_r : r.stop ≡ 0 → k.at < r.count
-  in_r ok = subst (λ (z : ℕ). k.at < z) (sym P.count) (Q.within (sym P.stop ∙ ok))
+  in_r : r.stop ≡ 0 → at_of k < r.count
+  in_r ok = subst (λ (z : ℕ). at_of k < z) (sym P.count) (Q.within (sym P.stop ∙ ok))
 
   below_r : r.stop ≡ 0 → NumbersBelow r.count (held r.stack)
   unfolding NumbersBelow
@@ -102,19 +102,19 @@ module _ (B : List ℕ) {cap : ℕ} {l : List ℤ} {w : List ℕ} {n : ℕ} (K :
   went : r.stop ≡ 0 → (E : List Entry) → run cap (load_one c (loading (standing l n K) E)) (trees l n) ≡ done (loading (standing l' r.count (held r.stack)) (entered c (standing l n K) E)) (trees l' r.count)
   unfolding after run
   went ok E =
-      let ok' : k.stop ≡ 0 = sym P.stop ∙ ok in
+      let ok' : stop_of k ≡ 0 = sym P.stop ∙ ok in
       let X = standing_kept (grown Q) H b in
       run_on E
-      ∙ (ap (λ (o : Out Tree). after o (λ t Y. run cap (ret (loading (t ∷ standing l n H) E)) Y)) (sym Q.ran ∙ out_ok k (trees l' k.count) ok')
-      ∙ (ap₂ (λ (Y : List Tree) (F : List Entry). done (loading (tree_at l' k.count k.at ∷ Y) F) (trees l' k.count)) (sym X) (sym (same E))
-      ∙ (ap (λ (z : ℕ). done (loading (standing l' z (k.at ∷ H)) (entered c (standing l n K) E)) (trees l' z)) (sym P.count)
+      ∙ (ap (λ (o : Out Tree). after o (λ t Y. run cap (ret (loading (t ∷ standing l n H) E)) Y)) (sym Q.ran ∙ out_ok k (trees l' (count_of k)) ok')
+      ∙ (ap₂ (λ (Y : List Tree) (F : List Entry). done (loading (tree_at l' (count_of k) (at_of k) ∷ Y) F) (trees l' (count_of k))) (sym X) (sym (same E))
+      ∙ (ap (λ (z : ℕ). done (loading (standing l' z ((at_of k) ∷ H)) (entered c (standing l n K) E)) (trees l' z)) (sym P.count)
       ∙ ap (λ (Z : List ℕ). done (loading (standing l' r.count Z) (entered c (standing l n K) E)) (trees l' r.count)) (sym (stack_is ok)))))
 
   stops : (r.stop ≡ 0 → ⊥) → (E : List Entry) → run cap (load_one c (loading (standing l n K) E)) (trees l n) ≡ stopped r.stop
   unfolding after
   stops off E =
       run_on E
-      ∙ (ap (λ (o : Out Tree). after o (λ t Y. run cap (ret (loading (t ∷ standing l n H) E)) Y)) (sym Q.ran ∙ out_no k (trees l' k.count) (λ z. off (P.stop ∙ z)))
+      ∙ (ap (λ (o : Out Tree). after o (λ t Y. run cap (ret (loading (t ∷ standing l n H) E)) Y)) (sym Q.ran ∙ out_no k (trees l' (count_of k)) (λ z. off (P.stop ∙ z)))
       ∙ ap stopped (sym P.stop))
 
   made_step : Stepped B cap l w c n K l' w' r
@@ -146,15 +146,15 @@ leaf_tree : (p : List ℤ) (X : List Tree) → tree_of (leaf_words p) X ≡ leaf
 unfolding leaf_words linear_held
 leaf_tree p X = tree_leaf (leaf_words p) X (leaf_as refl) ∙ ap leaf (leaf_some (leaf_words p) (some_as refl))
 
-pub leaf_grew : {cap : ℕ} {l : List ℤ} {w : List ℕ} {n : ℕ} (p : List ℤ) {x : Node} {l' : List ℤ} {w' : List ℕ} {k : Made} → x ≡ leaf_words p → Grew cap l w n
+pub leaf_grew : {cap : ℕ} {l : List ℤ} {w : List ℕ} {n : ℕ} (p : List ℤ) {x : Node} {l' : List ℤ} {w' : List ℕ} {k : Answer} → x ≡ leaf_words p → Grew cap l w n
     (make (tree_of x (trees l n))) l' w' k → Grew cap l w n (make (leaf (plain (linear_of p)))) l' w' k
 leaf_grew {l = l} {n = n} p e Q = grew_as (ap make (ap (λ (x : Node). tree_of x (trees l n)) e ∙ leaf_tree p (trees l n))) Q
 
-pub small_at : {cap : ℕ} {l l' : List ℤ} {w w' : List ℕ} {n : ℕ} {m : Comp Tree} {k : Made} → Grew cap l w n m l' w' k → k.stop ≡ 0 → k.at < 65536
-small_at {k = k} Q ok = index_small k.at Q.bare (Q.within ok)
+pub small_at : {cap : ℕ} {l l' : List ℤ} {w w' : List ℕ} {n : ℕ} {m : Comp Tree} {k : Answer} → Grew cap l w n m l' w' k → stop_of k ≡ 0 → at_of k < 65536
+small_at {k = k} Q ok = index_small (at_of k) Q.bare (Q.within ok)
 
-pub small_ran : {R : EntryRule} {cap : ℕ} {l l' : List ℤ} {w w' : List ℕ} {n : ℕ} {m : Comp Tree} {k : Made} → RuleRan R cap l w n m l' w' k → k.stop ≡ 0 → k.at < 65536
-small_ran {k = k} Q ok = index_small k.at Q.table.bare (Q.within ok)
+pub small_ran : {R : EntryRule} {cap : ℕ} {l l' : List ℤ} {w w' : List ℕ} {n : ℕ} {m : Comp Tree} {k : Answer} → RuleRan R cap l w n m l' w' k → stop_of k ≡ 0 → at_of k < 65536
+small_ran {k = k} Q ok = index_small (at_of k) Q.table.bare (Q.within ok)
 
 -- ---- each command
 
@@ -202,7 +202,7 @@ chosen_step B at n {l = l} t c e K b two most up is same G =
     (same (standing l n K))
 
 -- with the numbers that the code takes off the stack
-pub chosen : {R : EntryRule} {cap : ℕ} {l : List ℤ} {w : List ℕ} {n : ℕ} (t : Test) (K K₁ K₂ : List ℕ) {high low : ℕ} {l' : List ℤ} {w' : List ℕ} {k : Made} {r : Loaded} → low ≡ get_or K 0 0 → K₁ ≡ drop 1 K → high ≡ get_or K₁ 0 0 → K₂ ≡ drop 1 K₁
+pub chosen : {R : EntryRule} {cap : ℕ} {l : List ℤ} {w : List ℕ} {n : ℕ} (t : Test) (K K₁ K₂ : List ℕ) {high low : ℕ} {l' : List ℤ} {w' : List ℕ} {k : Answer} {r : Loaded} → low ≡ get_or K 0 0 → K₁ ≡ drop 1 K → high ≡ get_or K₁ 0 0 → K₂ ≡ drop 1 K₁
     → RuleRan R cap l w n (choose t (tree_at l n high) (tree_at l n low)) l' w' k → PutMade K₂ k r → ChosenOn R cap l w n (choose t (tree_at l n (get_or (drop 1 K) 0 0)) (tree_at l n (get_or K 0 0))) (drop 1 (drop 1 K)) l' w' r
 chosen {l = l} {n = n} t K K₁ K₂ {k = k} {r} a b c d Q P = record {
   made = k;

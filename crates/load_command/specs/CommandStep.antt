@@ -1,6 +1,6 @@
 -- What one command of the model does: the stack's numbers stand for diagrams of the table.
 use Rattle.std.specs.Prelude.{◌≡◌, List, [], ◌∷◌, map, ℕ, suc, ◌+◌, ◌-◌, ◌≤◌, ◌<◌, T, true, ℤ, length, drop, get_or}
-use Rattle.table.specs.declared.Made.{Made}
+use Rattle.table.specs.Table.{Answer, stop_of, at_of, count_of}
 use Rattle.theory.specs.Widths.{stack_most, conditions_most}
 use Rattle.theory.specs.Diagram.{Tree}
 use Rattle.theory.specs.Computation.{Comp, done, stopped, run}
@@ -25,18 +25,18 @@ NumbersBelow n [] = T true
 NumbersBelow n (i ∷ K) = (i < n) × NumbersBelow n K
 
 -- what was made goes on the stack K
-pub record PutMade (K : List ℕ) (m : Made) (r : Loaded) : Type 0 where
-  pub stop : r.stop ≡ m.stop
-  pub count : r.count ≡ m.count
-  pub stack : m.stop ≡ 0 → held r.stack ≡ pushed m.at K
+pub record PutMade (K : List ℕ) (m : Answer) (r : Loaded) : Type 0 where
+  pub stop : r.stop ≡ stop_of m
+  pub count : r.count ≡ count_of m
+  pub stack : stop_of m ≡ 0 → held r.stack ≡ pushed (at_of m) K
 
 pub record GrownOn (cap : ℕ) (l : List ℤ) (w : List ℕ) (n : ℕ) (m : Comp Tree) (K : List ℕ) (l' : List ℤ) (w' : List ℕ) (r : Loaded) : Type 0 where
-  pub made : Made
+  pub made : Answer
   pub grew : Grew cap l w n m l' w' made
   pub put : PutMade K made r
 
 pub record ChosenOn (R : EntryRule) (cap : ℕ) (l : List ℤ) (w : List ℕ) (n : ℕ) (m : Comp Tree) (K : List ℕ) (l' : List ℤ) (w' : List ℕ) (r : Loaded) : Type 0 where
-  pub made : Made
+  pub made : Answer
   pub ran : RuleRan R cap l w n m l' w' made
   pub put : PutMade K made r
 

@@ -2,6 +2,7 @@
 #![tactic(auto)]
 
 ghost use Rattle.std.specs.Prelude.{◌≡◌, ◌<◌, drop, get_or};
+ghost use Rattle.table.specs.Table.{stop_of, at_of};
 ghost use Rattle.theory.specs.Diagram.{leaf as leafed, plain};
 ghost use Rattle.theory.specs.Rules.{none_leaf};
 ghost use Rattle.theory.specs.Computation.{make};
@@ -16,7 +17,7 @@ use load_choose::{choose_command, words};
 use model_command::Command;
 use model_stack::Stack;
 use rule_node::making::{intern, make_none};
-use table::Made;
+use table::{Made, Stopped};
 use whole::NUMBERS;
 
 // The number that stops a load, or 0; how many nodes there are; and the stack.
@@ -28,22 +29,21 @@ pub struct Loaded {
 }
 
 // What was made goes on the stack.
-fn put(stack: Stack, m: Made) -> Loaded
-    requires { m.stop ≡ 0 → m.at < 65536 }
+fn put(stack: Stack, m: Result<Made, Stopped>) -> Loaded
+    requires { stop_of m ≡ 0 → at_of m < 65536 }
     ensures { PutMade (held stack) m result }
 {
-    if m.stop != 0 {
-        return Loaded {
-            stop: m.stop,
-            count: m.count,
+    match m {
+        Ok(made) => Loaded {
+            stop: 0,
+            count: made.count,
+            stack: stack.push(made.at as u32),
+        },
+        Err(e) => Loaded {
+            stop: e.why.number(),
+            count: e.count,
             stack,
-        };
-    }
-    let x = m.at as u32;
-    Loaded {
-        stop: 0,
-        count: m.count,
-        stack: stack.push(x),
+        },
     }
 }
 
@@ -52,9 +52,7 @@ fn leaf(nodes: &mut [i64], work: &mut [u32], cap: usize, s: Loaded, p: [i64; NUM
     requires { Bare cap nodes.old work.old s.count × Nums (leaf_words p) }
     ensures { GrownOn cap nodes.old work.old s.count (make (leafed (plain (linear_of p)))) (held s.stack) nodes.new work.new result }
 {
-    let stack = s.stack;
-    let m = intern(nodes, work, cap, s.count, words(p));
-    put(stack, m)
+    put(s.stack, intern(nodes, work, cap, s.count, words(p)))
 }
 
 // "Command 13 pushes a leaf "forbidden""
@@ -62,9 +60,7 @@ fn forbidden(nodes: &mut [i64], work: &mut [u32], cap: usize, s: Loaded) -> Load
     requires { Bare cap nodes.old work.old s.count }
     ensures { GrownOn cap nodes.old work.old s.count (make none_leaf) (held s.stack) nodes.new work.new result }
 {
-    let stack = s.stack;
-    let m = make_none(nodes, work, cap, s.count);
-    put(stack, m)
+    put(s.stack, make_none(nodes, work, cap, s.count))
 }
 
 // "takes low, then high, off the stack and pushes the choice", by the test of the command at an offset.
@@ -79,9 +75,8 @@ fn choice(
     requires { Table (load_rule model.now) cap nodes.old work.old s.count × Testing model.now at × (get_or (drop 1 (held s.stack)) 0 0 < s.count) × (get_or (held s.stack) 0 0 < s.count) }
     ensures { ChoiceMade model.now cap nodes.old work.old at s nodes.new work.new result }
 {
-    let stack = s.stack;
-    let low = stack.top();
-    let rest = stack.pop();
+    let low = s.stack.top();
+    let rest = s.stack.pop();
     let high = rest.top();
     let m = choose_command(
         model,
@@ -100,11 +95,9 @@ fn choice(
 fn taken(s: Loaded) -> Loaded
     ensures { Popped s result }
 {
-    let stack = s.stack;
     Loaded {
-        stop: s.stop,
-        count: s.count,
-        stack: stack.pop(),
+        stack: s.stack.pop(),
+        ..s
     }
 }
 

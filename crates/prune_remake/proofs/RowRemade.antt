@@ -9,16 +9,17 @@ use lib.Dec.{eqb}
 use lib.IntN.{ℤ, nat_abs}
 use lib.ListN.{length, length-append}
 use Rattle.whole.specs.Cases.{if, by_test, clash}
-use Rattle.table.specs.Table.{is_leaf}
+use Rattle.table.specs.Table.{Answer, stop_of, at_of, count_of, is_leaf}
 use Rattle.table.specs.declared.Node.{Node}
 use Rattle.table.specs.declared.Made.{Made}
+use Rattle.std.specs.Prelude.{Ok, Err, IsOk}
 use Rattle.theory.specs.Diagram.{Test, Tree, leaf, branch, same}
 use Rattle.theory.specs.Computation.{Comp, ret, make, result, done, stopped, run, member}
 use Rattle.theory.specs.Rules.{narrowed, node}
 use Rattle.rule_node.specs.Nodes.{leaf_of, test_held, tree_of, trees, tree_at, Valid, Proper}
 use Rattle.rule_node.specs.Table.{Grew}
 use Rattle.rule_node.proofs.Trees.{trees_length, tree_leaf}
-use Rattle.rule_node.proofs.Outcomes.{out_ok, out_no, grew_as}
+use Rattle.rule_node.proofs.Outcomes.{out_ok, out_no, grew_as, stops}
 use Rattle.prune_rows.specs.Rows.{RowFits}
 use Rattle.prune_remake.specs.Remade.{forward, branch_anew, row_anew, Gone}
 
@@ -54,10 +55,10 @@ module _ {cap : ℕ} {X : List Tree} (room : length X < cap) where
 
 -- ---- what was made
 
-pub record Went (l' : List ℤ) (r : Made) (n : ℕ) (t : Tree) : Type 0 where
-  pub fine : r.stop ≡ 0
-  pub is : tree_at l' r.count r.at ≡ t
-  pub few : r.count ≤ suc n
+pub record Went (l' : List ℤ) (r : Answer) (n : ℕ) (t : Tree) : Type 0 where
+  pub fine : stop_of r ≡ 0
+  pub is : tree_at l' (count_of r) (at_of r) ≡ t
+  pub few : count_of r ≤ suc n
 
 done_is : {a b : Tree} {X Y : List Tree} → done a X ≡ done b Y → a ≡ b
 done_is e = cc
@@ -65,17 +66,25 @@ done_is e = cc
 done_left : {a b : Tree} {X Y : List Tree} → done a X ≡ done b Y → X ≡ Y
 done_left e = cc
 
-pub went : {cap : ℕ} {l l' : List ℤ} {w w' : List ℕ} {n : ℕ} {m : Comp Tree} {r : Made} → Grew cap l w n m l' w' r → One cap m (trees l n) → Went l' r n (result m)
-went {l = l} {l'} {n = n} {m} {r} G O = go (eqb r.stop 0) refl
+pub went : {cap : ℕ} {l l' : List ℤ} {w w' : List ℕ} {n : ℕ} {m : Comp Tree} {r : Answer} → Grew cap l w n m l' w' r → One cap m (trees l n) → Went l' r n (result m)
+went {l = l} {l'} {n = n} {m} {r} G O = go (eqb (stop_of r) 0) refl
   where
-    go : (b : Bool) → eqb r.stop 0 ≡ b → Went l' r n (result m)
+    go : (b : Bool) → eqb (stop_of r) 0 ≡ b → Went l' r n (result m)
     go true e =
-        let z = eqb-true r.stop 0 e in
-        let s : done (tree_at l' r.count r.at) (trees l' r.count) ≡ done (result m) O.left = sym (out_ok r (trees l' r.count) z) ∙ (G.ran ∙ O.ran) in
-        record { fine = z; is = done_is s; few = omega (arith, ap length (done_left s), trees_length l' r.count, trees_length l n, O.few) }
+        let z = eqb-true (stop_of r) 0 e in
+        let s : done (tree_at l' (count_of r) (at_of r)) (trees l' (count_of r)) ≡ done (result m) O.left = sym (out_ok r (trees l' (count_of r)) z) ∙ (G.ran ∙ O.ran) in
+        record { fine = z; is = done_is s; few = omega (arith, ap length (done_left s), trees_length l' (count_of r), trees_length l n, O.few) }
     go false e =
-        let s : stopped r.stop ≡ done (result m) O.left = sym (out_no r (trees l' r.count) (eqb-false r.stop 0 e)) ∙ (G.ran ∙ O.ran) in
+        let s : stopped (stop_of r) ≡ done (result m) O.left = sym (out_no r (trees l' (count_of r)) (eqb-false (stop_of r) 0 e)) ∙ (G.ran ∙ O.ran) in
         absurd (let z : ◌≡◌ {A = ℕ} 0 1 = cc in omega arith)
+
+-- so it is there
+pub went_ok : {l' : List ℤ} {n : ℕ} {t : Tree} (r : Answer) → Went l' r n t → IsOk r
+went_ok (Ok m) W = refl
+went_ok (Err e) W = absurd (stops e W.fine)
+
+pub grew_there : {cap : ℕ} {l l' : List ℤ} {w w' : List ℕ} {n : ℕ} {m : Comp Tree} {r : Answer} {k : Made} → r ≡ Ok k → Grew cap l w n m l' w' r → Grew cap l w n m l' w' (Ok k)
+grew_there {cap} {l} {l'} {w} {w'} {n} {m} e G = subst (λ (r : Answer). Grew cap l w n m l' w' r) e G
 
 -- ---- the row, as the code reads it
 
@@ -113,7 +122,7 @@ module _ {y : Node} {i : ℕ} (F : RowFits y i) {x : Node} (ex : x ≡ y) {b : B
       low_below = λ q. clash (sym ends ∙ q);
     }
 
-    pub leaf_made : {cap : ℕ} {w w' : List ℕ} {n : ℕ} {l l' : List ℤ} {r : Made} → Grew cap l w n (make (tree_of x (trees l n))) l' w' r → Grew cap l w n (row_anew cap l w n y) l' w' r
+    pub leaf_made : {cap : ℕ} {w w' : List ℕ} {n : ℕ} {l l' : List ℤ} {r : Answer} → Grew cap l w n (make (tree_of x (trees l n))) l' w' r → Grew cap l w n (row_anew cap l w n y) l' w' r
     leaf_made {cap} {w} {n = n} {l} G = grew_as (ap make (tree_leaf x (trees l n) ends) ∙ (sym (leaf_anew cap l w n x ends) ∙ ap (row_anew cap l w n) ex)) G
 
   module _ (t : b ≡ false) where
@@ -130,7 +139,7 @@ module _ {y : Node} {i : ℕ} (F : RowFits y i) {x : Node} (ex : x ≡ y) {b : B
     pub low_in : {h : ℕ} → h ≡ nat_abs x.low → (0 < h) × (h ≤ i)
     low_in e = (omega (arith, (fits.some goes).1), omega (arith, fits.valid.low_below goes))
 
-    pub test_made : {cap : ℕ} {w w' : List ℕ} {n h k j m : ℕ} {l l' : List ℤ} {r : Made} → h ≡ nat_abs x.high → k ≡ nat_abs x.low → j ≡ forward cap w (h - 1) → m ≡ forward cap w (k - 1)
+    pub test_made : {cap : ℕ} {w w' : List ℕ} {n h k j m : ℕ} {l l' : List ℤ} {r : Answer} → h ≡ nat_abs x.high → k ≡ nat_abs x.low → j ≡ forward cap w (h - 1) → m ≡ forward cap w (k - 1)
         → Grew cap l w n (node (test_held x) (tree_at l n j) (tree_at l n m)) l' w' r → Grew cap l w n (row_anew cap l w n y) l' w' r
     test_made {cap} {w} {n = n} {l = l} eh ek ej em G =
         let a = ej ∙ ap (λ (h : ℕ). forward cap w (h - 1)) eh in

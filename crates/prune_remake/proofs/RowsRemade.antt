@@ -8,9 +8,8 @@ use native.Mathlib.Omega.{arith}
 use lib.IntN.{ℤ, nat_abs}
 use lib.ListN.{length, set, length-set}
 use lib.Seq.{get_or-set_same, get_or-set_other}
-use Rattle.table.specs.Table.{node_words, node_at, is_leaf}
+use Rattle.table.specs.Table.{Answer, at_of, count_of, node_words, node_at, is_leaf}
 use Rattle.table.specs.declared.Node.{Node}
-use Rattle.table.specs.declared.Made.{Made}
 use Rattle.table.proofs.Look.{split}
 use Rattle.table_unique.specs.Unique.{work_words, last_of}
 use Rattle.theory.specs.Diagram.{Leaf, leaf}
@@ -121,40 +120,40 @@ module _ {cap rows : ℕ} {W l : List ℤ} {w : List ℕ} {n i : ℕ} (G : GoodR
           let q = branch_is (node_at W i).low s.1 (v.low_below e) in
           ap result (test_anew cap l w n (node_at W i) e) ∙ ((λ j. result (node (test_held (node_at W i)) (p j) (q j))) ∙ (sym (anew_branch _ _ _) ∙ sym (ap anew (row.goes e))))
 
-  module _ {l' : List ℤ} {w' : List ℕ} {r : Made} (S : Grew cap l w n (row_anew cap l w n (node_at l i)) l' w' r) where
+  module _ {l' : List ℤ} {w' : List ℕ} {r : Answer} (S : Grew cap l w n (row_anew cap l w n (node_at l i)) l' w' r) where
     pub made : Went l' r n (anew (diagram_at W (suc i)))
     made = subst (Went l' r n) (ap (λ (x : Node). result (row_anew cap l w n x)) here ∙ row_is) (went S (one_row (omega (arith, trees_length l n, R.fewer)) cap l w n (node_at l i)))
 
-    pub at_in : r.at < r.count
+    pub at_in : at_of r < count_of r
     at_in = S.within made.fine
 
     abbrev w'' : List ℕ
-    w'' = set w' (cap * 2 + i) r.at
+    w'' = set w' (cap * 2 + i) (at_of r)
 
     forward_old : (j : ℕ) → j < i → forward cap w'' j ≡ forward cap w j
-    forward_old j p = get_or-set_other w' (cap * 2 + i) (cap * 2 + j) r.at 0 (omega arith) ∙ S.beyond (cap * 2 + j) (omega arith)
+    forward_old j p = get_or-set_other w' (cap * 2 + i) (cap * 2 + j) (at_of r) 0 (omega arith) ∙ S.beyond (cap * 2 + j) (omega arith)
 
-    forward_new : forward cap w'' i ≡ r.at
-    forward_new = get_or-set_same w' (cap * 2 + i) r.at 0 (omega (arith, S.bare.chained.space.works, S.bare.chained.space.some))
+    forward_new : forward cap w'' i ≡ at_of r
+    forward_new = get_or-set_same w' (cap * 2 + i) (at_of r) 0 (omega (arith, S.bare.chained.space.works, S.bare.chained.space.some))
 
     -- what holds of the rows before, and of this one
-    each : (P : ℕ → ℕ → Type 0) → ((j : ℕ) → j < i → P j (forward cap w j)) → P i r.at → (j : ℕ) → j < i + 1 → P j (forward cap w'' j)
+    each : (P : ℕ → ℕ → Type 0) → ((j : ℕ) → j < i → P j (forward cap w j)) → P i (at_of r) → (j : ℕ) → j < i + 1 → P j (forward cap w'' j)
     each P f g j p = ⊎_elim
         (λ q. subst (P j) (sym (forward_old j q)) (f j q))
         (λ q. subst (λ (k : ℕ). P k (forward cap w'' k)) (sym q) (subst (P i) (sym forward_new) g))
         (split i j (omega arith))
 
-    steps : Remade cap W l' w'' r.count (i + 1)
+    steps : Remade cap W l' w'' (count_of r) (i + 1)
     steps = record {
-      bare = bare_set S.bare (cap * 2 + i) r.at (omega arith);
+      bare = bare_set S.bare (cap * 2 + i) (at_of r) (omega arith);
       fewer = omega (arith, made.few, R.fewer);
-      there = each (λ _ k. k < r.count) (λ j p. omega (arith, R.there j p, S.more)) at_in;
-      is = each (λ j k. tree_at l' r.count k ≡ anew (diagram_at W (suc j))) (λ j p. trees_kept (record { more = S.more; kept = S.kept }) (forward cap w j) (R.there j p) ∙ R.is j p) made.is;
+      there = each (λ _ k. k < (count_of r)) (λ j p. omega (arith, R.there j p, S.more)) at_in;
+      is = each (λ j k. tree_at l' (count_of r) k ≡ anew (diagram_at W (suc j))) (λ j p. trees_kept (record { more = S.more; kept = S.kept }) (forward cap w j) (R.there j p) ∙ R.is j p) made.is;
       rest = λ j p. S.rest j (omega (arith, made.few, R.fewer)) ∙ R.rest j (omega arith);
     }
 
-    pub step : {w₀ : List ℕ} → Upto cap rows W l w₀ w n i → length l' ≡ length l → length w' ≡ length w → Upto cap rows W l' w₀ w'' r.count (i + 1)
-    step U a b = record { remade = steps; upto = omega arith; nodes_len = a ∙ U.nodes_len; work_len = length-set w' (cap * 2 + i) r.at ∙ (b ∙ U.work_len) }
+    pub step : {w₀ : List ℕ} → Upto cap rows W l w₀ w n i → length l' ≡ length l → length w' ≡ length w → Upto cap rows W l' w₀ w'' (count_of r) (i + 1)
+    step U a b = record { remade = steps; upto = omega arith; nodes_len = a ∙ U.nodes_len; work_len = length-set w' (cap * 2 + i) (at_of r) ∙ (b ∙ U.work_len) }
 
 pub all_remade : {cap rows : ℕ} {W l : List ℤ} {w₀ w : List ℕ} {n i : ℕ} → Upto cap rows W l w₀ w n i → rows ≤ i → Remade cap W l w n rows
 all_remade {cap} {rows} {W} {l} {w = w} {n} {i} U h = subst (Remade cap W l w n) (let e : i ≡ rows = omega (arith, U.upto) in e) U.remade

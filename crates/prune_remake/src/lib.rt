@@ -11,7 +11,7 @@ ghost use Rattle.prune_rows.specs.Rows.{RowFits};
 ghost use Rattle.prune_remake.specs.Remade.{forward, row_anew, Gone, Remade};
 
 use rule_node::making::{intern, join_test};
-use table::Made;
+use table::{Made, Stopped};
 
 // The index that row r has gone to; rows are numbered from 1.
 pub fn gone(work: &[u32], cap: usize, r: usize) -> usize
@@ -22,7 +22,13 @@ pub fn gone(work: &[u32], cap: usize, r: usize) -> usize
 }
 
 // The row at index i made anew over what its branches have become.
-fn remake_row(nodes: &mut [i64], work: &mut [u32], cap: usize, count: usize, i: usize) -> Made
+fn remake_row(
+    nodes: &mut [i64],
+    work: &mut [u32],
+    cap: usize,
+    count: usize,
+    i: usize,
+) -> Result<Made, Stopped>
     requires { Bare cap nodes.old work.old count × (i < cap) × RowFits (node_at nodes.old i) i × Gone cap work.old count i }
     ensures { Grew cap nodes.old work.old count (row_anew cap nodes.old work.old count (node_at nodes.old i)) nodes.new work.new result }
 {
@@ -43,7 +49,8 @@ pub fn remake(nodes: &mut [i64], work: &mut [u32], cap: usize, rows: usize) -> u
     table_clear::work(work, 0, cap);
     let mut count = 0;
     for i in 0..rows {
-        let r = remake_row(nodes, work, cap, count, i);
+        // A row comes to one node at most, so there is room for each.
+        let r = remake_row(nodes, work, cap, count, i).unwrap();
         work[cap * 2 + i] = r.at as u32;
         count = r.count;
     }

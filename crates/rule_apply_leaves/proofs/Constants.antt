@@ -1,27 +1,25 @@
 -- Two linears that differ by a constant: their coefficients are equal, and the constants' difference decides.
-use mathlib.Core.Path.{◌≡◌, sym, ap, ap₂, ◌∙◌, subst}
-use mathlib.Core.Bool.{Bool, true, false, ◌&&◌}
+use mathlib.Core.Path.{◌≡◌, refl, sym, ap, ap₂, ◌∙◌, subst}
+use mathlib.Core.Bool.{Bool, true, ◌&&◌}
 use mathlib.Core.List.{List, [], ◌∷◌}
-use Prim.Native.Nat.{ℕ, ◌+◌, ◌*◌, ◌^◌, ◌≤◌, ◌<◌}
+use Prim.Native.Nat.{ℕ, ◌+◌, ◌-◌, ◌*◌, ◌≤◌, ◌<◌}
 use native.Mathlib.Omega.{arith}
 use borrow.Author.Tests.{le-leb, lt-leb}
 use lib.Dec.{T, compare_is_eq}
-use lib.IntN.{ℤ, pos, nat_abs, ◌+ℤ◌, ◌-ℤ◌, +ℤ_invr, +ℤ_idl, -ℤ-+ℤ_cancel}
+use lib.IntN.{ℤ, pos, negsuc, nat_abs, ◌+ℤ◌, ◌-ℤ◌, ◌*ℤ◌, +ℤ_invr, +ℤ_idl, -ℤ-+ℤ_cancel}
 use lib.ListN.{length, get_or, take, drop}
-use lib.Signed.{le_z, mag}
+use lib.Signed.{le_z}
 use mir.Syntax.{w64}
-use mir.Val.{SFits, of_z}
-use Rattle.whole.specs.Cases.{if, both, and_in, from_true, is_true}
-use Rattle.whole.specs.Linears.{numbers, sub_list}
-use Rattle.whole.specs.LinearsLaws.{sub_at}
-use Rattle.whole.specs.Magnitude.{abs_sub}
+use mir.Val.{SFits}
+use Rattle.whole.specs.Cases.{if, both, and_in, from_true, is_true, same_bool}
+use Rattle.whole.specs.Linears.{numbers, add_list, scale_list, sub_list}
+use Rattle.whole.specs.LinearsLaws.{sub_at, minus, add_take, scale_take, scale_length}
 use Rattle.whole.specs.Within.{limit, Small, small}
-use Rattle.whole.proofs.Signed.{R, by_abs}
+use Rattle.whole.proofs.Signed.{R}
 use Rattle.whole.proofs.Loops.{sub_fits, sub_is}
-use Rattle.table.specs.Table.{node_words, node_at}
-use Rattle.table.specs.declared.Made.{Made}
+use Rattle.table.specs.declared.Stop.TheVariants.{Over}
+use Rattle.table.specs.Table.{Answer, made, halted, node_words, node_at}
 use Rattle.table.proofs.Store.{number_at}
-use Rattle.table.proofs.Words.{same_bits}
 use Rattle.theory.specs.Widths.{levels_most}
 use Rattle.theory.proofs.laws.Comps.{cmp_ℤ_eq}
 use Rattle.theory.specs.Diagram.{Linear, cmp_ℤ, zeros}
@@ -29,7 +27,12 @@ use Rattle.theory.specs.Valid.{all, small_linear}
 use Rattle.rule_node.specs.Nodes.{linear_held, constant_of}
 use Rattle.rule_node.specs.Table.{Bare}
 use Rattle.rule_leaves.specs.Leaves.{less_node}
-use Rattle.rule_leaves.proofs.Sums.{one_not_zero, one_zero, all_zero, less_long}
+use Rattle.rule_leaves.proofs.Sums.{less_long}
+use Rattle.std.specs.Ordering.{int_eq}
+use Rattle.std.proofs.lemmas.Bool.Decides.{Decides-int_eq}
+use Rattle.std.proofs.lemmas.List.{take-take}
+use lib.Pointwise.{pointwise}
+use lib.Seq.{length-take-le}
 use Rattle.rule_apply_leaves.specs.Constants.{AtNumbers, better_constant}
 
 -- a node of the table
@@ -54,6 +57,27 @@ constant_small p e = ap (λ (b : Bool). b && small p.const) (is_true (all small 
 zero_difference : (a b : ℤ) → a -ℤ b ≡ pos 0 → a ≡ b
 zero_difference a b e = sym (-ℤ-+ℤ_cancel a b) ∙ (ap (λ (z : ℤ). z +ℤ b) e ∙ +ℤ_idl b)
 
+same_number : (x y : ℤ) → compare_is_eq (cmp_ℤ (y +ℤ (negsuc 0 *ℤ x)) (pos 0)) ≡ int_eq x y
+same_number x y = same_bool (compare_is_eq (cmp_ℤ (y +ℤ (negsuc 0 *ℤ x)) (pos 0))) (int_eq x y)
+    (λ t. from_true ((Decides-int_eq x y).1 (sym (zero_difference y x (minus y x ∙ cmp_ℤ_eq (y +ℤ (negsuc 0 *ℤ x)) (pos 0) t)))))
+    (λ t. subst (λ (z : ℤ). T (compare_is_eq (cmp_ℤ z (pos 0)))) {x = pos 0} {y = y +ℤ (negsuc 0 *ℤ x)}
+    (sym (sym (minus y x) ∙ (ap (λ (z : ℤ). y -ℤ z) ((Decides-int_eq x y).0 (is_true (int_eq x y) t)) ∙ +ℤ_invr y))) tt)
+
+-- the difference of two lists is 0 where they are equal
+zeros_difference : (a b : List ℤ) → length a ≡ length b → zeros (sub_list b a) ≡ pointwise int_eq a b
+unfolding zeros add_list scale_list
+zeros_difference [] [] e = refl
+zeros_difference [] (y ∷ b) e = absurd (omega arith)
+zeros_difference (x ∷ a) [] e = absurd (omega arith)
+zeros_difference (x ∷ a) (y ∷ b) e = ap₂ ◌&&◌ (same_number x y) (zeros_difference a b (omega arith))
+
+-- as many as the code compares
+pub eight_from : (i : ℕ) → i + 8 - i ≡ levels_most
+eight_from i = omega arith
+
+sub_take : (n : ℕ) (b a : List ℤ) → length b ≡ length a → take n (sub_list b a) ≡ sub_list (take n b) (take n a)
+sub_take n b a e = add_take n b (scale_list (negsuc 0) a) (e ∙ sym (scale_length (negsuc 0) a)) ∙ ap (add_list (take n b)) (scale_take n (negsuc 0) a)
+
 module _ (l : List ℤ) (f g : ℕ) (s : AtNumbers l f × AtNumbers l g) where
   -- the numbers of the two linears, and of their difference
   abbrev a : List ℤ
@@ -76,9 +100,6 @@ module _ (l : List ℤ) (f g : ℕ) (s : AtNumbers l f × AtNumbers l g) where
   unfolding less_node
   constant_less = number_less levels_most (omega arith)
 
-  abbrev Differ : Bool → Type 0
-  Differ r = r ≡ zeros (linear_held (less_node (node_at l g) (node_at l f))).coeffs
-
   module _ (k : ℕ) (h : k < numbers) where
     abbrev p : ℤ
     p = get_or l (f * node_words + 1 + k) (pos 0)
@@ -98,24 +119,13 @@ module _ (l : List ℤ) (f g : ℕ) (s : AtNumbers l f × AtNumbers l g) where
     q_small : Small q
     q_small = subst Small read_g (s.1.nums.each k)
 
-    difference : get_or d k (pos 0) ≡ q -ℤ p
-    difference = number_less k h ∙ ap₂ ◌-ℤ◌ read_g read_f
-
-    difference_word : mag (get_or d k (pos 0)) < 2 ^ 63
-    difference_word = subst (λ (z : ℤ). mag z < 2 ^ 63) (sym difference) (by_abs (q -ℤ p) (omega (arith, abs_sub q p, p_small.small, q_small.small))).sfits
-
-    -- what is left of the coefficients decides
-    module _ (is : zeros (drop k (take levels_most d)) ≡ zeros (take levels_most d)) (c : k < levels_most) where
-      pub coefficient_differs : (of_z w64 p ≡ of_z w64 q → ⊥) → Differ false
-      unfolding linear_held less_node
-      coefficient_differs n = one_not_zero d d_long k is c (λ e. n (ap (of_z w64) (sym (zero_difference q p (sym difference ∙ same_bits (get_or d k (pos 0)) (pos 0) difference_word (omega arith) e)))))
-
-      pub coefficient_same : mag p < 2 ^ 63 → mag q < 2 ^ 63 → of_z w64 p ≡ of_z w64 q → zeros (drop (k + 1) (take levels_most d)) ≡ zeros (take levels_most d)
-      coefficient_same fp fq e = one_zero d d_long k is c difference_word (ap (of_z w64) (difference ∙ (ap (λ (z : ℤ). q -ℤ z) (same_bits p q fp fq e) ∙ +ℤ_invr q)))
-
-  pub coefficients_same : (k : ℕ) → zeros (drop k (take levels_most d)) ≡ zeros (take levels_most d) → levels_most ≤ k → Differ true
-  unfolding linear_held less_node
-  coefficients_same k is h = all_zero d d_long k is h
+  -- their first eight, as the code compares them
+  pub coefficients_same : {r : Bool} {x y : List ℤ} → x ≡ take levels_most (drop (f * node_words + 1) l) → y ≡ take levels_most (drop (g * node_words + 1) l) → r ≡ pointwise int_eq x y
+      → r ≡ zeros (linear_held (less_node (node_at l g) (node_at l f))).coeffs
+  unfolding linear_held less_node node_at
+  coefficients_same ex ey er =
+      er ∙ (ap₂ (pointwise int_eq) (ex ∙ sym (take-take levels_most numbers _ (omega arith))) (ey ∙ sym (take-take levels_most numbers _ (omega arith)))
+      ∙ sym (ap zeros (sub_take levels_most b a (s.1.nums.long ∙ sym s.0.nums.long)) ∙ zeros_difference (take levels_most a) (take levels_most b) (length-take-le levels_most a (let w = s.0.nums.long in omega arith) ∙ sym (length-take-le levels_most b (let w = s.1.nums.long in omega arith)))))
 
   -- ---- the constants' difference, as the code works it out
 
@@ -130,17 +140,17 @@ module _ (l : List ℤ) (f g : ℕ) (s : AtNumbers l f × AtNumbers l g) where
       sub_is _ _ (q_small levels_most (omega arith)) (p_small levels_most (omega arith))
       ∙ ap₂ ◌-ℤ◌ (sym (read_g levels_most (omega arith))) (sym (read_f levels_most (omega arith)))
 
-  abbrev answer : ℕ → Bool → Bool → Made
-  answer n s t = if s (record { stop = 0; at = if t f g; count = n }) (record { stop = 11; at = 0; count = n })
+  abbrev answer : ℕ → Bool → Bool → Answer
+  answer n s t = if s (made (if t f g) n) (halted Over n)
 
   module _ (n : ℕ) {m : ℕ} (e : m ≡ nat_abs (R last)) where
-    pub constants_over : limit < m → ◌≡◌ {A = Made} (record { stop = 11; at = 0; count = n }) (better_constant n f g (constant_of (node_at l g) -ℤ constant_of (node_at l f)))
+    pub constants_over : limit < m → ◌≡◌ {A = Answer} (halted Over n) (better_constant n f g (constant_of (node_at l g) -ℤ constant_of (node_at l f)))
     unfolding better_constant small
     constants_over h = sym (ap (better_constant n f g) (sym last_is) ∙ ap (λ (s : Bool). answer n s (le_z (R last) (pos 0))) (lt-leb (nat_abs (R last)) limit (omega arith)))
 
     pub constants_decide : m ≤ limit → {k : ℕ} → k ≡ if (le_z (R last) (pos 0)) f g
-        → ◌≡◌ {A = Made} (record { stop = 0; at = k; count = n }) (better_constant n f g (constant_of (node_at l g) -ℤ constant_of (node_at l f)))
+        → ◌≡◌ {A = Answer} (made k n) (better_constant n f g (constant_of (node_at l g) -ℤ constant_of (node_at l f)))
     unfolding better_constant small
     constants_decide h d =
-        ap (λ (k : ℕ). record { stop = 0; at = k; count = n }) d
+        ap (λ (k : ℕ). made k n) d
         ∙ sym (ap (better_constant n f g) (sym last_is) ∙ ap (λ (s : Bool). answer n s (le_z (R last) (pos 0))) (le-leb (nat_abs (R last)) limit (omega arith)))

@@ -3,8 +3,6 @@ use mathlib.Core.Path.{◌≡◌, refl, sym, ap, ap₂, ◌∙◌, subst}
 use mathlib.Core.Bool.{Bool, true, false}
 use mathlib.Core.List.{List}
 use Prim.Native.Nat.{ℕ}
-use borrow.Author.Tests.{eq-eqb, ne_eqb}
-use lib.Dec.{eqb}
 use lib.IntN.{ℤ, pos, nat_abs, ◌-ℤ◌}
 use lib.ListN.{length}
 use lib.Signed.{le_z}
@@ -13,10 +11,10 @@ use Rattle.whole.specs.Linears.{numbers, quot_list, divisor_list}
 use Rattle.whole.specs.LinearsLaws.{quot_smalls}
 use Rattle.whole.specs.Within.{small}
 use Rattle.whole.proofs.Signed.{R, small_back}
+use Rattle.table.specs.declared.Stop.TheVariants.{Over}
 use Rattle.table.proofs.Leaf.{leaf_as}
-use Rattle.table.specs.Table.{node_at, is_leaf, is_none}
+use Rattle.table.specs.Table.{Answer, made, halted, node_at, is_leaf, is_none}
 use Rattle.table.specs.declared.Node.{Node}
-use Rattle.table.specs.declared.Made.{Made}
 use Rattle.theory.specs.Widths.{levels_most}
 use Rattle.theory.specs.Diagram.{Linear, Test, Leaf, some, forbidden, Tree, leaf, zeros, test_of, ◌⊞◌, ◌⊟◌}
 use Rattle.theory.specs.Computation.{Comp, ret, make, judge}
@@ -33,7 +31,6 @@ use Rattle.rule_node.proofs.Meanings.{proper_linear, divided_test, named_leaf}
 use Rattle.rule_node.proofs.TwoOperands.{choose_leaf, step_leaf, both_ret}
 use Rattle.rule_leaves.specs.Leaves.{AtLeaf, AtLinear, stays_none, sum_node, less_node, product_node}
 use Rattle.rule_leaves.proofs.Sums.{sum_lin, less_lin, less_long, none_stays, scale_stays, scale_run, decide_constant, decide_test}
-use Rattle.rule_apply_leaves.specs.Combined.{leaf_rule}
 use Rattle.rule_apply_leaves.specs.Constants.{better_constant}
 use Rattle.rule_apply_leaves.proofs.Constants.{numbers_there, constant_small, constant_less}
 
@@ -70,16 +67,16 @@ module _ {cap : ℕ} {l : List ℤ} {w : List ℕ} {n : ℕ} (A : Bare cap l w n
   y₀ = node_at l g
 
   -- the leaf "none" stays where it is
-  none_there : (i : ℕ) → AtLeaf l n i → is_none (node_at l i).kind ≡ true → Grew cap l w n (make none_leaf) l w (record { stop = 0; at = i; count = n })
+  none_there : (i : ℕ) → AtLeaf l n i → is_none (node_at l i).kind ≡ true → Grew cap l w n (make none_leaf) l w (made i n)
   none_there i E e = grew_as (ap make (at_leaf A.good i E.below E.ends ∙ ap leaf (leaf_none (node_at l i) e))) (grew_there A i E.below)
 
-  pub sum_first : {b : Bool} → b ≡ is_none x₀.kind → b ≡ true → Grew cap l w n (leaf_sum (leaf_of x₀) (leaf_of y₀)) l w (record { stop = 0; at = f; count = n })
+  pub sum_first : {b : Bool} → b ≡ is_none x₀.kind → b ≡ true → Grew cap l w n (leaf_sum (leaf_of x₀) (leaf_of y₀)) l w (made f n)
   sum_first e t = grew_as (sym (ap (λ (z : Leaf). leaf_sum z (leaf_of y₀)) (leaf_none x₀ (sym e ∙ t)) ∙ none_sum (leaf_of y₀))) (none_there f F (sym e ∙ t))
 
-  pub sum_second : {b : Bool} → b ≡ is_none y₀.kind → b ≡ true → Grew cap l w n (leaf_sum (leaf_of x₀) (leaf_of y₀)) l w (record { stop = 0; at = g; count = n })
+  pub sum_second : {b : Bool} → b ≡ is_none y₀.kind → b ≡ true → Grew cap l w n (leaf_sum (leaf_of x₀) (leaf_of y₀)) l w (made g n)
   sum_second e t = grew_as (sym (ap (leaf_sum (leaf_of x₀)) (leaf_none y₀ (sym e ∙ t)) ∙ sum_none (leaf_of x₀))) (none_there g G (sym e ∙ t))
 
-  module _ {x y : Node} {l₁ : List ℤ} {w₁ : List ℕ} {r : Made} (s : Node) (ex : x ≡ x₀) (ey : y ≡ y₀) (Q : Grew cap l w n (make_leaf (linear_held s)) l₁ w₁ r) where
+  module _ {x y : Node} {l₁ : List ℤ} {w₁ : List ℕ} {r : Answer} (s : Node) (ex : x ≡ x₀) (ey : y ≡ y₀) (Q : Grew cap l w n (make_leaf (linear_held s)) l₁ w₁ r) where
     pub sum_made : {b c : Bool} → b ≡ is_none x₀.kind → b ≡ false → c ≡ is_none y₀.kind → c ≡ false → s ≡ sum_node x y → Grew cap l w n (leaf_sum (leaf_of x₀) (leaf_of y₀)) l₁ w₁ r
     sum_made eb b ec c e = grew_as (ap make_leaf lin ∙ (sym (sum_some _ _ _ _) ∙ ap₂ leaf_sum (sym (leaf_some x₀ (sym eb ∙ b))) (sym (leaf_some y₀ (sym ec ∙ c))))) Q
       where
@@ -98,10 +95,10 @@ module _ {cap : ℕ} {l : List ℤ} {w : List ℕ} {n : ℕ} (A : Bare cap l w n
       stays_is : stays_none (constant_of x₀) y₀ ≡ b
       stays_is = sym (eb ∙ ap (λ (z : ℤ). stays_none z y₀) k_is)
 
-      pub product_stays : b ≡ true → Grew cap l w n (leaf_product (leaf_of x₀) (leaf_of y₀)) l w (record { stop = 0; at = g; count = n })
+      pub product_stays : b ≡ true → Grew cap l w n (leaf_product (leaf_of x₀) (leaf_of y₀)) l w (made g n)
       product_stays t = grew_as (sym (scale_stays (constant_of x₀) y₀ (stays_is ∙ t)) ∙ by_constant) (none_there g G (none_stays (constant_of x₀) y₀ (stays_is ∙ t)))
 
-      pub product_made : b ≡ false → {y : Node} {l₁ : List ℤ} {w₁ : List ℕ} {r : Made} (s : Node) → y ≡ y₀ → Grew cap l w n (make_leaf (linear_held s)) l₁ w₁ r
+      pub product_made : b ≡ false → {y : Node} {l₁ : List ℤ} {w₁ : List ℕ} {r : Answer} (s : Node) → y ≡ y₀ → Grew cap l w n (make_leaf (linear_held s)) l₁ w₁ r
           → s ≡ product_node (R k) y → Grew cap l w n (leaf_product (leaf_of x₀) (leaf_of y₀)) l₁ w₁ r
       product_made t s ey Q e =
           grew_as by_constant
@@ -114,7 +111,7 @@ module _ {cap : ℕ} {l : List ℤ} {w : List ℕ} {n : ℕ} (A : Bare cap l w n
   unfolding leaf_best
   none_best z = refl
 
-  pub best_second : {b : Bool} → b ≡ is_none x₀.kind → b ≡ true → Grew cap l w n (leaf_best (leaf_of x₀) (leaf_of y₀)) l w (record { stop = 0; at = g; count = n })
+  pub best_second : {b : Bool} → b ≡ is_none x₀.kind → b ≡ true → Grew cap l w n (leaf_best (leaf_of x₀) (leaf_of y₀)) l w (made g n)
   best_second e t = grew_as (ap ret (at_leaf A.good g G.below G.ends) ∙ sym (ap (λ (z : Leaf). leaf_best z (leaf_of y₀)) (leaf_none x₀ (sym e ∙ t)) ∙ none_best (leaf_of y₀))) (grew_ret A g G.below)
 
   some_best : (z : Leaf) → leaf_best z forbidden ≡ ret (leaf z)
@@ -122,7 +119,7 @@ module _ {cap : ℕ} {l : List ℤ} {w : List ℕ} {n : ℕ} (A : Bare cap l w n
   some_best (some p a) = refl
   some_best forbidden = refl
 
-  pub best_first : {b : Bool} → b ≡ is_none y₀.kind → b ≡ true → Grew cap l w n (leaf_best (leaf_of x₀) (leaf_of y₀)) l w (record { stop = 0; at = f; count = n })
+  pub best_first : {b : Bool} → b ≡ is_none y₀.kind → b ≡ true → Grew cap l w n (leaf_best (leaf_of x₀) (leaf_of y₀)) l w (made f n)
   best_first e t = grew_as (ap ret (at_leaf A.good f F.below F.ends) ∙ sym (ap (leaf_best (leaf_of x₀)) (leaf_none y₀ (sym e ∙ t)) ∙ some_best (leaf_of x₀))) (grew_ret A f F.below)
 
 -- ---- best of two linears
@@ -132,7 +129,7 @@ choose_leaves : (t : Test) (f g : Leaf) → choose t (leaf f) (leaf g) ≡ node 
 choose_leaves t f g = choose_leaf t f (leaf g) ∙ (step_leaf node t _ _ g ∙ both_ret (node t) (leaf f) (leaf g))
 
 module _ {cap : ℕ} {l : List ℤ} {w : List ℕ} {n : ℕ} (A : Bare cap l w n) (f g : ℕ) (F₀ : AtLinear l n f) (G₀ : AtLinear l n g) {x y d : Node} (ex : x ≡ node_at l f) (ey : y ≡ node_at l g) (ed : d ≡ less_node y x) where
-  abbrev Best : List ℤ → List ℕ → Made → Type 0
+  abbrev Best : List ℤ → List ℕ → Answer → Type 0
   Best = Grew cap l w n (leaf_best (leaf_of (node_at l f)) (leaf_of (node_at l g)))
 
   F : AtLeaf l n f
@@ -174,14 +171,14 @@ module _ {cap : ℕ} {l : List ℤ} {w : List ℕ} {n : ℕ} (A : Bare cap l w n
   is_kind = leaf_as (ap (λ (d : Node). d.kind) ed)
 
   module _ {b : Bool} (eb : b ≡ small_linear (linear_held d)) where
-    pub best_over : b ≡ false → Best l w (record { stop = 11; at = 0; count = n })
+    pub best_over : b ≡ false → Best l w (halted Over n)
     best_over e = grew_as rule_is (grew_over (linear_held d) decided A (sym eb ∙ e))
 
     module _ (e : b ≡ true) where
       pub less_nums : Nums d
       less_nums = nums_of d d_long (sym eb ∙ e)
 
-      judged : {l₁ : List ℤ} {w₁ : List ℕ} {r : Made} → Grew cap l w n decided l₁ w₁ r → Best l₁ w₁ r
+      judged : {l₁ : List ℤ} {w₁ : List ℕ} {r : Answer} → Grew cap l w n decided l₁ w₁ r → Best l₁ w₁ r
       judged Q = grew_as rule_is (grew_judged (linear_held d) decided (sym eb ∙ e) Q)
 
       module _ {z : Node} (ez : z ≡ named_node d) where
@@ -191,7 +188,7 @@ module _ {cap : ℕ} {l : List ℤ} {w : List ℕ} {n : ℕ} (A : Bare cap l w n
         pub best_proper : Proper z
         best_proper = subst Proper (sym z_is) (proper_linear _ (quot_smalls _ _ less_nums))
 
-        pub best_test : {c : Bool} → c ≡ zeros (linear_held (less_node (node_at l g) (node_at l f))).coeffs → c ≡ false → {l₁ : List ℤ} {w₁ : List ℕ} {r : Made}
+        pub best_test : {c : Bool} → c ≡ zeros (linear_held (less_node (node_at l g) (node_at l f))).coeffs → c ≡ false → {l₁ : List ℤ} {w₁ : List ℕ} {r : Answer}
             → Grew cap l w n (node (test_held z) (tree_at l n f) (tree_at l n g)) l₁ w₁ r → Best l₁ w₁ r
         best_test ec q Q = judged (grew_as (ap (λ (t : Test). node t (tree_at l n f) (tree_at l n g)) (ap test_held z_is ∙ divided_test d d_long)
             ∙ (as_choice ∙ sym (decide_test (linear_held d) (tree_at l n f) (tree_at l n g) tested))) Q)
@@ -209,11 +206,11 @@ module _ {cap : ℕ} {l : List ℤ} {w : List ℕ} {n : ℕ} (A : Bare cap l w n
   d₀ = less_node (node_at l g) (node_at l f)
 
   -- the better one is taken as it stands
-  taken : (b : Bool) → Grew cap l w n (if b (ret (tree_at l n f)) (ret (tree_at l n g))) l w (record { stop = 0; at = if b f g; count = n })
+  taken : (b : Bool) → Grew cap l w n (if b (ret (tree_at l n f)) (ret (tree_at l n g))) l w (made (if b f g) n)
   taken true = grew_ret A f F₀.leaf.below
   taken false = grew_ret A g G₀.leaf.below
 
-  pub best_constant : {c : Bool} → c ≡ zeros (linear_held d₀).coeffs → c ≡ true → {r : Made} → r ≡ better_constant n f g (constant_of (node_at l g) -ℤ constant_of (node_at l f))
+  pub best_constant : {c : Bool} → c ≡ zeros (linear_held d₀).coeffs → c ≡ true → {r : Answer} → r ≡ better_constant n f g (constant_of (node_at l g) -ℤ constant_of (node_at l f))
       → Grew cap l w n (leaf_best (leaf_of (node_at l f)) (leaf_of (node_at l g))) l w r
   unfolding better_constant linear_held
   best_constant ec q {r} e = go (small (constant_of d₀)) refl (e ∙ ap (better_constant n f g) (sym (constant_less l f g (numbers_there A f F₀.leaf.below, numbers_there A g G₀.leaf.below))))
@@ -221,7 +218,7 @@ module _ {cap : ℕ} {l : List ℤ} {w : List ℕ} {n : ℕ} (A : Bare cap l w n
       constant : zeros (linear_held d₀).coeffs ≡ true
       constant = sym ec ∙ q
 
-      go : (b : Bool) → small (constant_of d₀) ≡ b → r ≡ if b (record { stop = 0; at = if (le_z (constant_of d₀) (pos 0)) f g; count = n }) (record { stop = 11; at = 0; count = n })
+      go : (b : Bool) → small (constant_of d₀) ≡ b → r ≡ if b (made (if (le_z (constant_of d₀) (pos 0)) f g) n) (halted Over n)
           → Grew cap l w n (leaf_best (leaf_of (node_at l f)) (leaf_of (node_at l g))) l w r
       go true s e =
           subst (Grew cap l w n (leaf_best (leaf_of (node_at l f)) (leaf_of (node_at l g))) l w) (sym e)
@@ -230,21 +227,3 @@ module _ {cap : ℕ} {l : List ℤ} {w : List ℕ} {n : ℕ} (A : Bare cap l w n
       go false s e =
           subst (Grew cap l w n (leaf_best (leaf_of (node_at l f)) (leaf_of (node_at l g))) l w) (sym e)
           (best_over A f g F₀ G₀ refl refl refl (sym (constant_small (linear_held d₀) constant ∙ s)) refl)
-
--- ---- by the rule's number
-
-module _ (op : ℕ) (f g : Leaf) where
-  pub is_sum : op ≡ 0 → leaf_sum f g ≡ leaf_rule op f g
-  unfolding leaf_rule
-  is_sum e = ap (λ (b : Bool). (if b leaf_sum (if (eqb op 1) leaf_product leaf_best)) f g) (sym (eq-eqb op 0 e))
-
-  module _ (n : op ≡ 0 → ⊥) where
-    rest : (if (eqb op 1) leaf_product leaf_best) f g ≡ leaf_rule op f g
-    unfolding leaf_rule
-    rest = ap (λ (b : Bool). (if b leaf_sum (if (eqb op 1) leaf_product leaf_best)) f g) (sym (ne_eqb op 0 n))
-
-    pub is_product : op ≡ 1 → leaf_product f g ≡ leaf_rule op f g
-    is_product e = ap (λ (b : Bool). (if b leaf_product leaf_best) f g) (sym (eq-eqb op 1 e)) ∙ rest
-
-    pub is_best : (op ≡ 1 → ⊥) → leaf_best f g ≡ leaf_rule op f g
-    is_best e = ap (λ (b : Bool). (if b leaf_product leaf_best) f g) (sym (ne_eqb op 1 e)) ∙ rest

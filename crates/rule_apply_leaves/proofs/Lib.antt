@@ -1,2 +1,3 @@
 pub mod Constants
 pub mod LeafPairs
+pub mod LeafRules

@@ -8,16 +8,37 @@ ghost use Rattle.theory.specs.Rules.{leaf_sum, leaf_product, leaf_best};
 ghost use Rattle.rule_node.specs.Nodes.{linear_held, constant_of, leaf_of};
 ghost use Rattle.rule_node.specs.Table.{Bare, Grew};
 ghost use Rattle.rule_leaves.specs.Leaves.{AtLeaf, AtLinear, less_node};
-ghost use Rattle.rule_apply_leaves.specs.Combined.{leaf_rule};
+ghost use Rattle.rule_apply_leaves.specs.Combined.{code_of, leaf_rule};
 ghost use Rattle.rule_apply_leaves.specs.Constants.{AtNumbers, better_constant};
 
 use rule_leaves::numbers::{constant, decided, less, plus, product, stays_none};
-use rule_node::codes::{PRODUCT, SUM};
+use rule_node::codes::{BEST, PRODUCT, SUM};
 use rule_node::making::{join_test, make_leaf, within};
 use rule_tests::named;
-use table::{Made, NODE_WORDS, none_at};
+use table::{Made, NODE_WORDS, Stop, Stopped, none_at};
 use whole::COEFFICIENTS;
 use whole::limits::{LIMIT, mag};
+
+// The rules that merge two diagrams.
+#[derive(Clone, Copy)]
+pub enum Merge {
+    Sum,
+    Product,
+    Best,
+}
+
+impl Merge {
+    // The rule's number, the first word of its entries in the computed cache.
+    pub fn code(self) -> usize
+        ensures { result ≡ code_of self }
+    {
+        match self {
+            Merge::Sum => SUM,
+            Merge::Product => PRODUCT,
+            Merge::Best => BEST,
+        }
+    }
+}
 
 // The sum; with the leaf "none" it is that leaf.
 fn sum_leaves(
@@ -27,23 +48,15 @@ fn sum_leaves(
     count: usize,
     f: usize,
     g: usize,
-) -> Made
+) -> Result<Made, Stopped>
     requires { Bare cap nodes.old work.old count × AtLeaf nodes.old count f × AtLeaf nodes.old count g }
     ensures { Grew cap nodes.old work.old count (leaf_sum (leaf_of (node_at nodes.old f)) (leaf_of (node_at nodes.old g))) nodes.new work.new result }
 {
     if none_at(nodes, f) {
-        return Made {
-            stop: 0,
-            at: f,
-            count,
-        };
+        return Ok(Made { at: f, count });
     }
     if none_at(nodes, g) {
-        return Made {
-            stop: 0,
-            at: g,
-            count,
-        };
+        return Ok(Made { at: g, count });
     }
     let s = plus(table::get(nodes, f), table::get(nodes, g));
     make_leaf(nodes, work, cap, count, s)
@@ -57,17 +70,13 @@ fn product_leaves(
     count: usize,
     f: usize,
     g: usize,
-) -> Made
+) -> Result<Made, Stopped>
     requires { Bare cap nodes.old work.old count × AtLeaf nodes.old count f × AtLeaf nodes.old count g }
     ensures { Grew cap nodes.old work.old count (leaf_product (leaf_of (node_at nodes.old f)) (leaf_of (node_at nodes.old g))) nodes.new work.new result }
 {
     let k = constant(table::get(nodes, f));
     if stays_none(nodes, k, g) {
-        return Made {
-            stop: 0,
-            at: g,
-            count,
-        };
+        return Ok(Made { at: g, count });
     }
     let s = product(k, table::get(nodes, g));
     make_leaf(nodes, work, cap, count, s)
@@ -81,21 +90,12 @@ fn differ_by_constant(nodes: &[i64], f: usize, g: usize) -> bool
 {
     let i = f * NODE_WORDS + 1;
     let j = g * NODE_WORDS + 1;
-    let mut k: usize = 0;
-    while k < COEFFICIENTS {
-        let p = nodes[i + k];
-        let q = nodes[j + k];
-        if p != q {
-            return false;
-        }
-        k += 1;
-    }
-    true
+    nodes[i..i + COEFFICIENTS] == nodes[j..j + COEFFICIENTS]
 }
 
 // The better leaf of two linears that differ by a constant, the first where they are equal. Of the difference only the
 // constant can lie beyond the limits.
-fn best_constants(nodes: &[i64], count: usize, f: usize, g: usize) -> Made
+fn best_constants(nodes: &[i64], count: usize, f: usize, g: usize) -> Result<Made, Stopped>
     requires { AtNumbers nodes.now f × AtNumbers nodes.now g }
     ensures { result ≡ better_constant count f g (constant_of (node_at nodes.now g) -ℤ constant_of (node_at nodes.now f)) }
 {
@@ -103,17 +103,15 @@ fn best_constants(nodes: &[i64], count: usize, f: usize, g: usize) -> Made
     let q = nodes[g * NODE_WORDS + 1 + COEFFICIENTS];
     let d = q - p;
     if mag(d) > LIMIT {
-        return Made {
-            stop: 11,
-            at: 0,
+        return Err(Stopped {
+            why: Stop::Over,
             count,
-        };
+        });
     }
-    Made {
-        stop: 0,
+    Ok(Made {
         at: decided(d, f, g),
         count,
-    }
+    })
 }
 
 // The better leaf of two linears, the first where they are equal; a test of the difference where neither always is.
@@ -124,7 +122,7 @@ fn best_linears(
     count: usize,
     f: usize,
     g: usize,
-) -> Made
+) -> Result<Made, Stopped>
     requires { Bare cap nodes.old work.old count × AtLinear nodes.old count f × AtLinear nodes.old count g }
     ensures { Grew cap nodes.old work.old count (leaf_best (leaf_of (node_at nodes.old f)) (leaf_of (node_at nodes.old g))) nodes.new work.new result }
 {
@@ -136,11 +134,10 @@ fn best_linears(
     if within(d) {
         return join_test(nodes, work, cap, count, named(d), f, g);
     }
-    Made {
-        stop: 11,
-        at: 0,
+    Err(Stopped {
+        why: Stop::Over,
         count,
-    }
+    })
 }
 
 // The better leaf: "none" loses to any other, and no difference is worked out.
@@ -151,47 +148,37 @@ fn best_leaves(
     count: usize,
     f: usize,
     g: usize,
-) -> Made
+) -> Result<Made, Stopped>
     requires { Bare cap nodes.old work.old count × AtLeaf nodes.old count f × AtLeaf nodes.old count g }
     ensures { Grew cap nodes.old work.old count (leaf_best (leaf_of (node_at nodes.old f)) (leaf_of (node_at nodes.old g))) nodes.new work.new result }
 {
     let first_loses = none_at(nodes, f);
     if first_loses {
-        return Made {
-            stop: 0,
-            at: g,
-            count,
-        };
+        return Ok(Made { at: g, count });
     }
     let second_loses = none_at(nodes, g);
     if second_loses {
-        return Made {
-            stop: 0,
-            at: f,
-            count,
-        };
+        return Ok(Made { at: f, count });
     }
     best_linears(nodes, work, cap, count, f, g)
 }
 
-// By the rule's number.
+// By the rule.
 pub fn combine(
     nodes: &mut [i64],
     work: &mut [u32],
     cap: usize,
     count: usize,
-    op: usize,
+    rule: Merge,
     f: usize,
     g: usize,
-) -> Made
+) -> Result<Made, Stopped>
     requires { Bare cap nodes.old work.old count × AtLeaf nodes.old count f × AtLeaf nodes.old count g }
-    ensures { Grew cap nodes.old work.old count (leaf_rule op (leaf_of (node_at nodes.old f)) (leaf_of (node_at nodes.old g))) nodes.new work.new result }
+    ensures { Grew cap nodes.old work.old count (leaf_rule rule (leaf_of (node_at nodes.old f)) (leaf_of (node_at nodes.old g))) nodes.new work.new result }
 {
-    if op == SUM {
-        return sum_leaves(nodes, work, cap, count, f, g);
+    match rule {
+        Merge::Sum => sum_leaves(nodes, work, cap, count, f, g),
+        Merge::Product => product_leaves(nodes, work, cap, count, f, g),
+        Merge::Best => best_leaves(nodes, work, cap, count, f, g),
     }
-    if op == PRODUCT {
-        return product_leaves(nodes, work, cap, count, f, g);
-    }
-    best_leaves(nodes, work, cap, count, f, g)
 }

@@ -14,7 +14,7 @@ ghost use Rattle.rule_node.specs.EntryMeaning.{test_by, NamesTest, rule_of};
 use self::roots::choice_of;
 use rule_node::making::{join, join_test};
 use rule_tests::{stands_at, test_at};
-use table::Made;
+use table::{Made, Stopped};
 use table_cache::{keep, look};
 
 // A node of the test that op and p give over two branches.
@@ -27,7 +27,7 @@ fn join_choice(
     p: usize,
     h: usize,
     l: usize,
-) -> Made
+) -> Result<Made, Stopped>
     requires { Bare cap nodes.old work.old count × NamesTest count op p × (h < count) × (l < count) }
     ensures { Grew cap nodes.old work.old count (node (test_held (test_node nodes.old op p)) (tree_at nodes.old count h) (tree_at nodes.old count l)) nodes.new work.new result }
 {
@@ -47,7 +47,7 @@ pub fn choose(
     p: usize,
     f: usize,
     g: usize,
-) -> Made
+) -> Result<Made, Stopped>
     requires { Table rule_of cap nodes.old work.old count × NamesTest count op p × (f < count) × (g < count) }
     ensures { RuleRan rule_of cap nodes.old work.old count (T.choose (test_by nodes.old count op p) (tree_at nodes.old count f) (tree_at nodes.old count g)) nodes.new work.new result }
 {
@@ -55,26 +55,12 @@ pub fn choose(
     if s.ends {
         return join_choice(nodes, work, cap, count, op, p, s.fh, s.gl);
     }
-    let c = look(work, cap, op, f, g, p, 0);
-    if c != 0 {
-        return Made {
-            stop: 0,
-            at: c - 1,
-            count,
-        };
+    if let Some(at) = look(work, cap, op, f, g, p, 0) {
+        return Ok(Made { at, count });
     }
-    let h = choose(nodes, work, cap, count, op, p, s.fh, s.gh);
-    if h.stop != 0 {
-        return h;
-    }
-    let l = choose(nodes, work, cap, h.count, op, p, s.fl, s.gl);
-    if l.stop != 0 {
-        return l;
-    }
-    let r = join(nodes, work, cap, l.count, s.root, h.at, l.at);
-    if r.stop != 0 {
-        return r;
-    }
+    let h = choose(nodes, work, cap, count, op, p, s.fh, s.gh)?;
+    let l = choose(nodes, work, cap, h.count, op, p, s.fl, s.gl)?;
+    let r = join(nodes, work, cap, l.count, s.root, h.at, l.at)?;
     keep(work, cap, op, f, g, p, 0, r.at);
-    r
+    Ok(r)
 }

@@ -1,5 +1,6 @@
 // What a rule of two operands goes on with.
 ghost use Rattle.std.specs.Prelude.{◌≡◌, ◌+◌, ◌≤◌, length, take, drop};
+ghost use Rattle.std.specs.Ordering.{ordering_index};
 ghost use Rattle.whole.specs.Linears.{numbers};
 ghost use Rattle.table.specs.Table.{node_at};
 ghost use Rattle.rule_node.specs.Nodes.{At};
@@ -8,6 +9,7 @@ ghost use Rattle.rule_choose.specs.Choice.{end_sides, split_of, pick_low, sides_
 
 use rule_node::{Down, Sides};
 use rule_tests::{below_at, order_at, order_to, stands_at, test_at};
+use std::cmp::Ordering;
 use table::{NODE_WORDS, Node};
 
 // The left operand's sides, the right one whole.
@@ -67,8 +69,8 @@ fn ended(f: usize, g: usize, k: usize) -> Sides
 }
 
 // The sides of two nodes by the first root, their order being o.
-pub fn split(x: Down, f: usize, y: Down, g: usize, o: usize) -> Sides
-    ensures { result ≡ split_of x f y g o }
+pub fn split(x: Down, f: usize, y: Down, g: usize, o: Ordering) -> Sides
+    ensures { result ≡ split_of x f y g (ordering_index o) }
 {
     if x.ends {
         if y.ends {
@@ -79,29 +81,25 @@ pub fn split(x: Down, f: usize, y: Down, g: usize, o: usize) -> Sides
     if y.ends {
         return left(x, f, g);
     }
-    if o == 0 {
-        return left(x, f, g);
+    match o {
+        Ordering::Less => left(x, f, g),
+        Ordering::Equal => both(x, f, y),
+        Ordering::Greater => right(f, y, g),
     }
-    if o == 1 {
-        return both(x, f, y);
-    }
-    right(f, y, g)
 }
 
 // The low operand's part in a choice, the high side being p of f; b is the order of the test and the low root.
-pub fn pick_low(p: usize, f: usize, y: Down, g: usize, b: usize) -> Sides
-    ensures { result ≡ pick_low p f y g b }
+pub fn pick_low(p: usize, f: usize, y: Down, g: usize, b: Ordering) -> Sides
+    ensures { result ≡ pick_low p f y g (ordering_index b) }
 {
     if y.ends {
         return ended(p, g, g);
     }
-    if b == 2 {
-        return right(f, y, g);
+    match b {
+        Ordering::Less => ended(p, g, g),
+        Ordering::Equal => ended(p, g, y.low),
+        Ordering::Greater => right(f, y, g),
     }
-    if b == 1 {
-        return ended(p, g, y.low);
-    }
-    ended(p, g, g)
 }
 
 // The sides of two roots at f and g by the first; where one ends they need not be compared.
@@ -109,11 +107,8 @@ fn first_root(nodes: &[i64], x: Down, f: usize, y: Down, g: usize) -> Sides
     requires { At nodes.now f × At nodes.now g }
     ensures { result ≡ split_of x f y g (ord_num (order_of (node_at nodes.now f) (node_at nodes.now g))) }
 {
-    if x.ends {
-        return split(x, f, y, g, 0);
-    }
-    if y.ends {
-        return split(x, f, y, g, 0);
+    if x.ends || y.ends {
+        return split(x, f, y, g, Ordering::Less);
     }
     split(x, f, y, g, order_at(nodes, f, g))
 }
@@ -134,7 +129,7 @@ fn low_part(
     ensures { result ≡ pick_low p f y g (ord_num (order_of (test_words k (take numbers (drop i t.now))) (node_at nodes.now g))) }
 {
     if y.ends {
-        return pick_low(p, f, y, g, 0);
+        return pick_low(p, f, y, g, Ordering::Less);
     }
     pick_low(p, f, y, g, order_to(k, t, i, nodes, g))
 }
@@ -160,14 +155,11 @@ fn choice_by(nodes: &[i64], k: i64, t: &[i64], i: usize, f: usize, g: usize) -> 
     if x.ends {
         return low_part(nodes, k, t, i, f, f, y, g);
     }
-    let a = order_to(k, t, i, nodes, f);
-    if a == 2 {
-        return first_root(nodes, x, f, y, g);
+    match order_to(k, t, i, nodes, f) {
+        Ordering::Less => low_part(nodes, k, t, i, f, f, y, g),
+        Ordering::Equal => low_part(nodes, k, t, i, x.high, f, y, g),
+        Ordering::Greater => first_root(nodes, x, f, y, g),
     }
-    if a == 1 {
-        return low_part(nodes, k, t, i, x.high, f, y, g);
-    }
-    low_part(nodes, k, t, i, f, f, y, g)
 }
 
 // The same by the test z.
@@ -175,8 +167,7 @@ pub fn choice_at(nodes: &[i64], z: Node, f: usize, g: usize) -> Sides
     requires { At nodes.now f × At nodes.now g }
     ensures { result ≡ choice_of z (node_at nodes.now f) f (node_at nodes.now g) g }
 {
-    let n = z.n;
-    choice_by(nodes, z.kind, &n, 0, f, g)
+    choice_by(nodes, z.kind, &z.n, 0, f, g)
 }
 
 // The same by the test that op and p give: a root's words are compared where they stand.

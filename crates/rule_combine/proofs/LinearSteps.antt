@@ -11,9 +11,8 @@ use lib.Seq.{drop-cons}
 use Rattle.whole.specs.Linears.{numbers}
 use Rattle.whole.specs.LinearsLaws.{rest}
 use Rattle.whole.specs.Within.{Small}
-use Rattle.table.specs.Table.{node_at}
+use Rattle.table.specs.Table.{Answer, stop_of, at_of, count_of, made, node_at}
 use Rattle.table.specs.declared.Node.{Node}
-use Rattle.table.specs.declared.Made.{Made}
 use Rattle.theory.specs.Widths.{levels_most}
 use Rattle.theory.specs.Diagram.{Tree}
 use Rattle.theory.specs.Computation.{Comp, ret, bind}
@@ -92,30 +91,30 @@ module _ {cap : ℕ} {l : List ℤ} {w : List ℕ} {n : ℕ} (A : Table rule_of 
 
 -- ---- one level
 
-module _ {cap : ℕ} {l : List ℤ} {w : List ℕ} {n : ℕ} {f : ℕ} (d : ℕ) (hf : f < n) {c b : ℤ} (e : b ≡ c) {l₁ : List ℤ} {w₁ : List ℕ} {t : Made} (Q' : RuleRan rule_of cap l w n (scale b (tree_at l n d)) l₁ w₁ t) where
+module _ {cap : ℕ} {l : List ℤ} {w : List ℕ} {n : ℕ} {f : ℕ} (d : ℕ) (hf : f < n) {c b : ℤ} (e : b ≡ c) {l₁ : List ℤ} {w₁ : List ℕ} {t : Answer} (Q' : RuleRan rule_of cap l w n (scale b (tree_at l n d)) l₁ w₁ t) where
   Q : RuleRan rule_of cap l w n (scale c (tree_at l n d)) l₁ w₁ t
   Q = ran_as (ap (λ (b : ℤ). scale b (tree_at l n d)) e) Q'
 
-  abbrev Added : List ℤ → List ℕ → Made → Type 0
+  abbrev Added : List ℤ → List ℕ → Answer → Type 0
   Added = RuleRan rule_of cap l w n (add_on c (tree_at l n d) (tree_at l n f))
 
-  pub level_stops : (t.stop ≡ 0 → ⊥) → Added l₁ w₁ t
+  pub level_stops : (stop_of t ≡ 0 → ⊥) → Added l₁ w₁ t
   unfolding add_on
   level_stops off = stop _ Q off
 
-  module _ (ok : t.stop ≡ 0) where
-    pub level_asks : Table rule_of cap l₁ w₁ t.count × (0 ≤ 2) × (f < t.count) × (t.at < t.count)
-    level_asks = (Q.table, omega arith, lt_of_lt_of_le hf Q.more, Q.within ok)
+  module _ (ok : stop_of t ≡ 0) where
+    pub level_asks : Table rule_of cap l₁ w₁ (count_of t) × (f < (count_of t)) × ((at_of t) < (count_of t))
+    level_asks = (Q.table, lt_of_lt_of_le hf Q.more, Q.within ok)
 
-    pub level_added : {l₂ : List ℤ} {w₂ : List ℕ} {r : Made} → RuleRan rule_of cap l₁ w₁ t.count (rule_of l₁ t.count 0 f t.at 0 0) l₂ w₂ r → Added l₂ w₂ r
+    pub level_added : {l₂ : List ℤ} {w₂ : List ℕ} {r : Answer} → RuleRan rule_of cap l₁ w₁ (count_of t) (rule_of l₁ (count_of t) 0 f (at_of t) 0 0) l₂ w₂ r → Added l₂ w₂ r
     unfolding add_on
-    level_added P = seq _ Q ok (ran_as (rule_sum l₁ t.count f t.at 0 0 ∙ ap (λ (F : Tree). sum F (tree_at l₁ t.count t.at)) (trees_kept (grown Q) f hf)) P)
+    level_added P = seq _ Q ok (ran_as (rule_sum l₁ (count_of t) f (at_of t) 0 0 ∙ ap (λ (F : Tree). sum F (tree_at l₁ (count_of t) (at_of t))) (trees_kept (grown Q) f hf)) P)
 
 -- ---- the levels behind the first
 
 -- what ran so far leaves the levels from k on to the sum of all with the diagram at f
-pub record Adding (cap : ℕ) (l : List ℤ) (w : List ℕ) (n i : ℕ) (L : List ℕ) (f k : ℕ) (l₁ : List ℤ) (w₁ : List ℕ) (s : Made) : Type 0 where
-  pub goes : s.stop ≡ 0
+pub record Adding (cap : ℕ) (l : List ℤ) (w : List ℕ) (n i : ℕ) (L : List ℕ) (f k : ℕ) (l₁ : List ℤ) (w₁ : List ℕ) (s : Answer) : Type 0 where
+  pub goes : stop_of s ≡ 0
   pub so_far : Comp Tree
   pub ran : RuleRan rule_of cap l w n so_far l₁ w₁ s
   pub left : bind so_far (Left (coeffs l i) (levels_at l n L) k) ≡ Left (coeffs l i) (levels_at l n L) 1 (tree_at l n f)
@@ -126,7 +125,7 @@ module _ {cap : ℕ} {l : List ℤ} {w : List ℕ} {n : ℕ} (A : Table rule_of 
   abbrev Ds : List Tree
   Ds = levels_at l n L
 
-  pub adding_none : (f : ℕ) → f < n → Adding cap l w n i L f 1 l w (record { stop = 0; at = f; count = n })
+  pub adding_none : (f : ℕ) → f < n → Adding cap l w n i L f 1 l w (made f n)
   unfolding bind
   adding_none f h = record { goes = refl; so_far = ret (tree_at l n f); ran = ran_ret A f h; left = refl; nodes_length = refl; work_length = refl }
 
@@ -136,18 +135,18 @@ module _ {cap : ℕ} {l : List ℤ} {w : List ℕ} {n : ℕ} (A : Table rule_of 
   short : (k : ℕ) → k < length L → k < levels_most
   short k h = lt_of_lt_of_le h B.most
 
-  module _ {f k : ℕ} {l₁ : List ℤ} {w₁ : List ℕ} {s : Made} (S : Adding cap l w n i L f k l₁ w₁ s) where
+  module _ {f k : ℕ} {l₁ : List ℤ} {w₁ : List ℕ} {s : Answer} (S : Adding cap l w n i L f k l₁ w₁ s) where
     pub added_all : length L ≤ k → RuleRan rule_of cap l w n (Left (coeffs l i) Ds 1 (tree_at l n f)) l₁ w₁ s
     added_all h = ran_as (sym (bind_ret S.so_far) ∙ (sym (bind_as S.so_far (ends (coeffs l i) Ds k (omega (arith, long)))) ∙ S.left)) S.ran
 
     module _ (h : k < length L) where
-      pub adding_number : (i < s.count) × (k < numbers)
+      pub adding_number : (i < (count_of s)) × (k < numbers)
       adding_number = (lt_of_lt_of_le hi S.ran.more, (let q = short k h in omega arith))
 
-      pub adding_asks : Table rule_of cap l₁ w₁ s.count × (s.at < s.count) × (get_or L k 0 < s.count)
+      pub adding_asks : Table rule_of cap l₁ w₁ (count_of s) × ((at_of s) < (count_of s)) × (get_or L k 0 < (count_of s))
       adding_asks = (S.ran.table, S.ran.within S.goes, lt_of_lt_of_le (B.below k) S.ran.more)
 
-      module _ {b : ℤ} (e : b ≡ get_or (node_at l₁ i).n k (pos 0)) {l₂ : List ℤ} {w₂ : List ℕ} {r : Made} (P : RuleRan rule_of cap l₁ w₁ s.count (add_on b (tree_at l₁ s.count (get_or L k 0)) (tree_at l₁ s.count s.at)) l₂ w₂ r) where
+      module _ {b : ℤ} (e : b ≡ get_or (node_at l₁ i).n k (pos 0)) {l₂ : List ℤ} {w₂ : List ℕ} {r : Answer} (P : RuleRan rule_of cap l₁ w₁ (count_of s) (add_on b (tree_at l₁ (count_of s) (get_or L k 0)) (tree_at l₁ (count_of s) (at_of s))) l₂ w₂ r) where
         abbrev c : ℤ
         c = get_or (coeffs l i) k (pos 0)
 
@@ -157,58 +156,58 @@ module _ {cap : ℕ} {l : List ℤ} {w : List ℕ} {n : ℕ} (A : Table rule_of 
         b_is : b ≡ c
         b_is = e ∙ (ap (λ (x : Node). get_or x.n k (pos 0)) (S.ran.kept i hi) ∙ coefficient A i hi k (short k h))
 
-        d_is : tree_at l₁ s.count (get_or L k 0) ≡ D
+        d_is : tree_at l₁ (count_of s) (get_or L k 0) ≡ D
         d_is = trees_kept (grown S.ran) (get_or L k 0) (B.below k) ∙ sym (get_or-map (tree_at l n) L k 0)
 
         next : RuleRan rule_of cap l w n (bind S.so_far (add_on c D)) l₂ w₂ r
-        next = seq (add_on c D) S.ran S.goes (ran_as (ap₂ (λ (z : ℤ) (X : Tree). add_on z X (tree_at l₁ s.count s.at)) b_is d_is) P)
+        next = seq (add_on c D) S.ran S.goes (ran_as (ap₂ (λ (z : ℤ) (X : Tree). add_on z X (tree_at l₁ (count_of s) (at_of s))) b_is d_is) P)
 
         next_left : bind (bind S.so_far (add_on c D)) (Left (coeffs l i) Ds (k + 1)) ≡ Left (coeffs l i) Ds 1 (tree_at l n f)
         next_left = bind_bind S.so_far (add_on c D) (Left (coeffs l i) Ds (k + 1))
             ∙ (sym (bind_as S.so_far (steps (coeffs l i) Ds k (tree_at l n 0) (let q = short k h in omega (arith, coefficients_long A i hi)) (omega (arith, long)))) ∙ S.left)
 
-        pub adding_stops : (r.stop ≡ 0 → ⊥) → RuleRan rule_of cap l w n (Left (coeffs l i) Ds 1 (tree_at l n f)) l₂ w₂ r
+        pub adding_stops : (stop_of r ≡ 0 → ⊥) → RuleRan rule_of cap l w n (Left (coeffs l i) Ds 1 (tree_at l n f)) l₂ w₂ r
         adding_stops off = ran_as next_left (stop _ next off)
 
-        pub adding_one : r.stop ≡ 0 → length l₂ ≡ length l₁ → length w₂ ≡ length w₁ → Adding cap l w n i L f (k + 1) l₂ w₂ r
+        pub adding_one : stop_of r ≡ 0 → length l₂ ≡ length l₁ → length w₂ ≡ length w₁ → Adding cap l w n i L f (k + 1) l₂ w₂ r
         adding_one ok a d = record { goes = ok; so_far = bind S.so_far (add_on c D); ran = next; left = next_left; nodes_length = a ∙ S.nodes_length; work_length = d ∙ S.work_length }
 
   -- ---- all levels
 
-  module _ {b : ℤ} (e : b ≡ get_or (node_at l i).n 0 (pos 0)) {l₁ : List ℤ} {w₁ : List ℕ} {s : Made} (P : RuleRan rule_of cap l w n (scale b (tree_at l n (get_or L 0 0))) l₁ w₁ s) where
+  module _ {b : ℤ} (e : b ≡ get_or (node_at l i).n 0 (pos 0)) {l₁ : List ℤ} {w₁ : List ℕ} {s : Answer} (P : RuleRan rule_of cap l w n (scale b (tree_at l n (get_or L 0 0))) l₁ w₁ s) where
     first : RuleRan rule_of cap l w n (scale (get_or (coeffs l i) 0 (pos 0)) (get_or Ds 0 (tree_at l n 0))) l₁ w₁ s
     first = ran_as (ap₂ scale (e ∙ coefficient A i hi 0 (omega arith)) (sym (get_or-map (tree_at l n) L 0 0))) P
 
     total : bind (scale (get_or (coeffs l i) 0 (pos 0)) (get_or Ds 0 (tree_at l n 0))) (Left (coeffs l i) Ds 1) ≡ levels_sum (coeffs l i) Ds
     total = begins (coeffs l i) Ds (tree_at l n 0) (omega (arith, coefficients_long A i hi)) (let q = B.some in omega (arith, long))
 
-    pub levels_stop : (s.stop ≡ 0 → ⊥) → RuleRan rule_of cap l w n (levels_sum (coeffs l i) Ds) l₁ w₁ s
+    pub levels_stop : (stop_of s ≡ 0 → ⊥) → RuleRan rule_of cap l w n (levels_sum (coeffs l i) Ds) l₁ w₁ s
     levels_stop off = ran_as total (stop _ first off)
 
-    module _ (ok : s.stop ≡ 0) where
-      pub levels_ask : Table rule_of cap l₁ w₁ s.count × (i < s.count) × (s.at < s.count) × Levels s.count L
+    module _ (ok : stop_of s ≡ 0) where
+      pub levels_ask : Table rule_of cap l₁ w₁ (count_of s) × (i < (count_of s)) × ((at_of s) < (count_of s)) × Levels (count_of s) L
       levels_ask = (P.table, lt_of_lt_of_le hi P.more, P.within ok, levels_more B P.more)
 
-      pub levels_made : {l₂ : List ℤ} {w₂ : List ℕ} {r : Made} → RuleRan rule_of cap l₁ w₁ s.count
-          (sum_on (tree_at l₁ s.count s.at) (drop 1 (linear_held (node_at l₁ i)).coeffs) (drop 1 (levels_at l₁ s.count L))) l₂ w₂ r → RuleRan rule_of cap l w n
+      pub levels_made : {l₂ : List ℤ} {w₂ : List ℕ} {r : Answer} → RuleRan rule_of cap l₁ w₁ (count_of s)
+          (sum_on (tree_at l₁ (count_of s) (at_of s)) (drop 1 (linear_held (node_at l₁ i)).coeffs) (drop 1 (levels_at l₁ (count_of s) L))) l₂ w₂ r → RuleRan rule_of cap l w n
           (levels_sum (coeffs l i) Ds) l₂ w₂ r
       levels_made U = ran_as total (seq (Left (coeffs l i) Ds 1) first ok
-          (ran_as (ap₂ (λ (x : Node) (X : List Tree). sum_on (tree_at l₁ s.count s.at) (drop 1 (linear_held x).coeffs) (drop 1 X)) (P.kept i hi) (levels_kept B (grown P))) U))
+          (ran_as (ap₂ (λ (x : Node) (X : List Tree). sum_on (tree_at l₁ (count_of s) (at_of s)) (drop 1 (linear_held x).coeffs) (drop 1 X)) (P.kept i hi) (levels_kept B (grown P))) U))
 
 -- ---- the constant last
 
-module _ {cap : ℕ} {l l₁ : List ℤ} {w w₁ : List ℕ} {n : ℕ} (i : ℕ) (hi : i < n) (Ds : List Tree) {s : Made} (Q : RuleRan rule_of cap l w n (levels_sum (linear_held (node_at l i)).coeffs Ds) l₁ w₁ s) where
-  abbrev LinearDiagram : List ℤ → List ℕ → Made → Type 0
+module _ {cap : ℕ} {l l₁ : List ℤ} {w w₁ : List ℕ} {n : ℕ} (i : ℕ) (hi : i < n) (Ds : List Tree) {s : Answer} (Q : RuleRan rule_of cap l w n (levels_sum (linear_held (node_at l i)).coeffs Ds) l₁ w₁ s) where
+  abbrev LinearDiagram : List ℤ → List ℕ → Answer → Type 0
   LinearDiagram = RuleRan rule_of cap l w n (linear_diagram Ds (linear_held (node_at l i)))
 
-  pub linear_stops : (s.stop ≡ 0 → ⊥) → LinearDiagram l₁ w₁ s
+  pub linear_stops : (stop_of s ≡ 0 → ⊥) → LinearDiagram l₁ w₁ s
   unfolding linear_diagram
   linear_stops off = stop _ Q off
 
-  module _ (ok : s.stop ≡ 0) {b : ℤ} (e : b ≡ constant_of (node_at l₁ i)) where
-    pub shift_asks : Table rule_of cap l₁ w₁ s.count × (s.at < s.count) × Small b
+  module _ (ok : stop_of s ≡ 0) {b : ℤ} (e : b ≡ constant_of (node_at l₁ i)) where
+    pub shift_asks : Table rule_of cap l₁ w₁ (count_of s) × ((at_of s) < (count_of s)) × Small b
     shift_asks = (Q.table, Q.within ok, subst Small (sym e) ((Q.table.bare.good.valid i (lt_of_lt_of_le hi Q.more)).nums.each levels_most))
 
-    pub linear_made : {l₂ : List ℤ} {w₂ : List ℕ} {r : Made} → RuleRan rule_of cap l₁ w₁ s.count (shift b (tree_at l₁ s.count s.at)) l₂ w₂ r → LinearDiagram l₂ w₂ r
+    pub linear_made : {l₂ : List ℤ} {w₂ : List ℕ} {r : Answer} → RuleRan rule_of cap l₁ w₁ (count_of s) (shift b (tree_at l₁ (count_of s) (at_of s))) l₂ w₂ r → LinearDiagram l₂ w₂ r
     unfolding linear_diagram linear_held
-    linear_made P = seq _ Q ok (ran_as (ap (λ (z : ℤ). shift z (tree_at l₁ s.count s.at)) (e ∙ ap constant_of (Q.kept i hi))) P)
+    linear_made P = seq _ Q ok (ran_as (ap (λ (z : ℤ). shift z (tree_at l₁ (count_of s) (at_of s))) (e ∙ ap constant_of (Q.kept i hi))) P)

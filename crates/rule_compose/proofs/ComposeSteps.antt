@@ -11,9 +11,8 @@ use lib.Dec.{ltb}
 use lib.IntN.{ℤ, pos, nat_abs}
 use lib.ListN.{get_or}
 use Rattle.whole.specs.Cases.{if}
-use Rattle.table.specs.Table.{node_at, eq_ℤ, is_leaf, is_none}
+use Rattle.table.specs.Table.{Answer, stop_of, at_of, count_of, made, node_at, eq_ℤ, is_leaf, is_none}
 use Rattle.table.specs.declared.Node.{Node}
-use Rattle.table.specs.declared.Made.{Made}
 use Rattle.theory.specs.Widths.{conditions_most}
 use Rattle.theory.specs.Diagram.{Linear, Test, now, later, linear, forbidden, lin_of, Tree, leaf, branch}
 use Rattle.theory.specs.Computation.{Comp, ret, make, bind, both}
@@ -77,25 +76,25 @@ sub_branch Ds x F H L t = go (eq_ℤ x.kind (pos 1)) refl (ltb conditions_most (
 
 -- ---- one after another
 
-module _ {R : EntryRule} {cap : ℕ} {l l₁ : List ℤ} {w w₁ : List ℕ} {n : ℕ} {m₀ : Comp Tree} (m₁ m₂ : Comp Tree) (mk : Tree → Tree → Tree → Comp Tree) {p : Made} (Q : RuleRan R cap l w n m₀ l₁ w₁ p) where
-  abbrev All : List ℤ → List ℕ → Made → Type 0
+module _ {R : EntryRule} {cap : ℕ} {l l₁ : List ℤ} {w w₁ : List ℕ} {n : ℕ} {m₀ : Comp Tree} (m₁ m₂ : Comp Tree) (mk : Tree → Tree → Tree → Comp Tree) {p : Answer} (Q : RuleRan R cap l w n m₀ l₁ w₁ p) where
+  abbrev All : List ℤ → List ℕ → Answer → Type 0
   All = RuleRan R cap l w n (bind m₀ (λ P. both (mk P) m₁ m₂))
 
-  head_stops : (p.stop ≡ 0 → ⊥) → All l₁ w₁ p
+  head_stops : (stop_of p ≡ 0 → ⊥) → All l₁ w₁ p
   head_stops off = stop _ Q off
 
-  module _ (ok : p.stop ≡ 0) {l₂ : List ℤ} {w₂ : List ℕ} {h : Made} (S : RuleRan R cap l₁ w₁ p.count m₁ l₂ w₂ h) where
-    high_stops : (h.stop ≡ 0 → ⊥) → All l₂ w₂ h
-    high_stops off = seq _ Q ok (both_high_stops (mk (tree_at l₁ p.count p.at)) m₂ S off)
+  module _ (ok : stop_of p ≡ 0) {l₂ : List ℤ} {w₂ : List ℕ} {h : Answer} (S : RuleRan R cap l₁ w₁ (count_of p) m₁ l₂ w₂ h) where
+    high_stops : (stop_of h ≡ 0 → ⊥) → All l₂ w₂ h
+    high_stops off = seq _ Q ok (both_high_stops (mk (tree_at l₁ (count_of p) (at_of p))) m₂ S off)
 
-    module _ (ok₁ : h.stop ≡ 0) {l₃ : List ℤ} {w₃ : List ℕ} {k : Made} (U : RuleRan R cap l₂ w₂ h.count m₂ l₃ w₃ k) where
-      low_stops : (k.stop ≡ 0 → ⊥) → All l₃ w₃ k
-      low_stops off = seq _ Q ok (both_low_stops (mk (tree_at l₁ p.count p.at)) m₂ S ok₁ U off)
+    module _ (ok₁ : stop_of h ≡ 0) {l₃ : List ℤ} {w₃ : List ℕ} {k : Answer} (U : RuleRan R cap l₂ w₂ (count_of h) m₂ l₃ w₃ k) where
+      low_stops : (stop_of k ≡ 0 → ⊥) → All l₃ w₃ k
+      low_stops off = seq _ Q ok (both_low_stops (mk (tree_at l₁ (count_of p) (at_of p))) m₂ S ok₁ U off)
 
-      all_made : k.stop ≡ 0 → {l₄ : List ℤ} {w₄ : List ℕ} {r : Made} → RuleRan R cap l₃ w₃ k.count (mk (tree_at l₃ k.count p.at) (tree_at l₃ k.count h.at) (tree_at l₃ k.count k.at)) l₄ w₄ r → All l₄ w₄ r
-      all_made ok₂ P = seq _ Q ok (both_made (mk (tree_at l₁ p.count p.at)) m₂ S ok₁ U ok₂
-          (ran_as (ap (λ (z : Tree). mk z (tree_at l₃ k.count h.at) (tree_at l₃ k.count k.at))
-          (trees_kept (grown_on (grown S) (grown U)) p.at (Q.within ok))) P))
+      all_made : stop_of k ≡ 0 → {l₄ : List ℤ} {w₄ : List ℕ} {r : Answer} → RuleRan R cap l₃ w₃ (count_of k) (mk (tree_at l₃ (count_of k) (at_of p)) (tree_at l₃ (count_of k) (at_of h)) (tree_at l₃ (count_of k) (at_of k))) l₄ w₄ r → All l₄ w₄ r
+      all_made ok₂ P = seq _ Q ok (both_made (mk (tree_at l₁ (count_of p) (at_of p))) m₂ S ok₁ U ok₂
+          (ran_as (ap (λ (z : Tree). mk z (tree_at l₃ (count_of k) (at_of h)) (tree_at l₃ (count_of k) (at_of k)))
+          (trees_kept (grown_on (grown S) (grown U)) (at_of p) (Q.within ok))) P))
 
 -- ---- on the table
 
@@ -120,7 +119,7 @@ module _ {cap : ℕ} {l : List ℤ} {w : List ℕ} {n : ℕ} (A : Table rule_of 
       ∙ ap₂ (λ (I : List ℕ) (i : ℕ). substitute (levels_at l n I) (tree_at l n i)) (indexes_are f L sub_asks.1 sub_asks.2) (place_is f L sub_asks.1 sub_asks.2)
 
   -- an entry answers
-  pub sub_answered : (r : ℕ) → HeldEntry cap w k r → RuleRan rule_of cap l w n (Sub l n f L) l w (record { stop = 0; at = r; count = n })
+  pub sub_answered : (r : ℕ) → HeldEntry cap w k r → RuleRan rule_of cap l w n (Sub l n f L) l w (made r n)
   sub_answered r E = ran_as rule_is (answered A k.op k.f k.g k.p k.q r E)
 
   lasts : Lasting rule_of l n k.op k.f k.g k.p k.q
@@ -128,11 +127,11 @@ module _ {cap : ℕ} {l : List ℤ} {w : List ℕ} {n : ℕ} (A : Table rule_of 
       (subst (λ (I : List ℕ). (i : ℕ) → get_or I i 0 < n) (sym (indexes_are f L sub_asks.1 sub_asks.2)) B.below)
 
   -- a result is kept
-  module _ {l' : List ℤ} {w' : List ℕ} {r : Made} (Q : RuleRan rule_of cap l w n (Sub l n f L) l' w' r) (ok : r.stop ≡ 0) where
-    pub retain_asks : WorkRoom cap w' × (f < 65536) × Levels 65536 L × (r.at < 65536)
-    retain_asks = (room_in Q.table, sub_asks.1, sub_asks.2, index_small r.at Q.table.bare (Q.within ok))
+  module _ {l' : List ℤ} {w' : List ℕ} {r : Answer} (Q : RuleRan rule_of cap l w n (Sub l n f L) l' w' r) (ok : stop_of r ≡ 0) where
+    pub retain_asks : WorkRoom cap w' × (f < 65536) × Levels 65536 L × ((at_of r) < 65536)
+    retain_asks = (room_in Q.table, sub_asks.1, sub_asks.2, index_small (at_of r) Q.table.bare (Q.within ok))
 
-    pub sub_stored : {w'' : List ℕ} → w'' ≡ with_result cap w' k r.at → RuleRan rule_of cap l w n (Sub l n f L) l' w'' r
+    pub sub_stored : {w'' : List ℕ} → w'' ≡ with_result cap w' k (at_of r) → RuleRan rule_of cap l w n (Sub l n f L) l' w'' r
     sub_stored e = ran_as rule_is (kept_run lasts (ran_as (sym rule_is) Q) ok e)
 
   -- ---- what the node at f is
@@ -142,13 +141,13 @@ module _ {cap : ℕ} {l : List ℤ} {w : List ℕ} {n : ℕ} (A : Table rule_of 
 
   -- a leaf: "none" stays, the linear of another is built over the levels
   module _ (e : is_leaf x.kind ≡ true) {b : Bool} (eb : b ≡ is_none x.kind) where
-    pub sub_none : b ≡ true → RuleRan rule_of cap l w n (Sub l n f L) l w (record { stop = 0; at = f; count = n })
+    pub sub_none : b ≡ true → RuleRan rule_of cap l w n (Sub l n f L) l w (made f n)
     unfolding substitute
     sub_none t =
         let q : tree_at l n f ≡ leaf forbidden = at_leaf A.bare.good f hf e ∙ ap leaf (leaf_none x (sym eb ∙ t)) in
         ran_as (ap make q ∙ ap (substitute (levels_at l n L)) (sym q)) (lifted A (grew_there A.bare f hf))
 
-    pub sub_leaf : b ≡ false → {l₁ : List ℤ} {w₁ : List ℕ} {r : Made} → RuleRan rule_of cap l w n (linear_diagram (levels_at l n L) (linear_held x)) l₁ w₁ r → RuleRan rule_of cap l w n (Sub l n f L) l₁ w₁ r
+    pub sub_leaf : b ≡ false → {l₁ : List ℤ} {w₁ : List ℕ} {r : Answer} → RuleRan rule_of cap l w n (linear_diagram (levels_at l n L) (linear_held x)) l₁ w₁ r → RuleRan rule_of cap l w n (Sub l n f L) l₁ w₁ r
     unfolding substitute
     sub_leaf t Q = ran_as (ap (substitute (levels_at l n L)) (sym (at_leaf A.bare.good f hf e ∙ ap leaf (leaf_some x (sym eb ∙ t))))) Q
 
@@ -189,38 +188,38 @@ module _ {cap : ℕ} {l : List ℤ} {w : List ℕ} {n : ℕ} (A : Table rule_of 
             ∙ (sym (sub_branch (levels_at l n L) x (tree_at l n f) (tree_at l n (nat_abs x.high)) (tree_at l n (nat_abs x.low)) sub_tested)
             ∙ ap (substitute (levels_at l n L)) (sym (at_branch A.bare.good f hf (kind_of ∙ e))))
 
-        abbrev Done : List ℤ → List ℕ → Made → Type 0
+        abbrev Done : List ℤ → List ℕ → Answer → Type 0
         Done = RuleRan rule_of cap l w n (Sub l n f L)
 
-        module _ {l₁ : List ℤ} {w₁ : List ℕ} {p : Made} (Q : RuleRan rule_of cap l w n (head_of k (levels_at l n L) (linear_held x) (tree_at l n f)) l₁ w₁ p) where
-          pub sub_head_stops : (p.stop ≡ 0 → ⊥) → Done l₁ w₁ p
+        module _ {l₁ : List ℤ} {w₁ : List ℕ} {p : Answer} (Q : RuleRan rule_of cap l w n (head_of k (levels_at l n L) (linear_held x) (tree_at l n f)) l₁ w₁ p) where
+          pub sub_head_stops : (stop_of p ≡ 0 → ⊥) → Done l₁ w₁ p
           sub_head_stops off = ran_as sub_is (head_stops _ _ (over_test k) Q off)
 
-          pub high_asks : Table rule_of cap l₁ w₁ p.count × (s.high < p.count) × Levels p.count L
+          pub high_asks : Table rule_of cap l₁ w₁ (count_of p) × (s.high < (count_of p)) × Levels (count_of p) L
           high_asks = (Q.table, (let a = sub_high in let b = Q.more in omega arith), levels_more B Q.more)
 
-          module _ (ok : p.stop ≡ 0) {l₂ : List ℤ} {w₂ : List ℕ} {h : Made} (S' : RuleRan rule_of cap l₁ w₁ p.count (Sub l₁ p.count s.high L) l₂ w₂ h) where
-            S : RuleRan rule_of cap l₁ w₁ p.count (Sub l n s.high L) l₂ w₂ h
+          module _ (ok : stop_of p ≡ 0) {l₂ : List ℤ} {w₂ : List ℕ} {h : Answer} (S' : RuleRan rule_of cap l₁ w₁ (count_of p) (Sub l₁ (count_of p) s.high L) l₂ w₂ h) where
+            S : RuleRan rule_of cap l₁ w₁ (count_of p) (Sub l n s.high L) l₂ w₂ h
             S = ran_as (sub_kept B (grown Q) s.high (let a = sub_high in omega arith)) S'
 
-            pub sub_high_stops : (h.stop ≡ 0 → ⊥) → Done l₂ w₂ h
+            pub sub_high_stops : (stop_of h ≡ 0 → ⊥) → Done l₂ w₂ h
             sub_high_stops off = ran_as sub_is (high_stops _ _ (over_test k) Q ok S off)
 
-            pub low_asks : Table rule_of cap l₂ w₂ h.count × (s.low < h.count) × Levels h.count L
+            pub low_asks : Table rule_of cap l₂ w₂ (count_of h) × (s.low < (count_of h)) × Levels (count_of h) L
             low_asks = (S.table, (let a = sub_low in let b = Q.more in let c = S.more in omega arith), levels_more B (let b = Q.more in let c = S.more in omega arith))
 
-            module _ (ok₁ : h.stop ≡ 0) {l₃ : List ℤ} {w₃ : List ℕ} {t : Made} (U' : RuleRan rule_of cap l₂ w₂ h.count (Sub l₂ h.count s.low L) l₃ w₃ t) where
-              U : RuleRan rule_of cap l₂ w₂ h.count (Sub l n s.low L) l₃ w₃ t
+            module _ (ok₁ : stop_of h ≡ 0) {l₃ : List ℤ} {w₃ : List ℕ} {t : Answer} (U' : RuleRan rule_of cap l₂ w₂ (count_of h) (Sub l₂ (count_of h) s.low L) l₃ w₃ t) where
+              U : RuleRan rule_of cap l₂ w₂ (count_of h) (Sub l n s.low L) l₃ w₃ t
               U = ran_as (sub_kept B (grown_on (grown Q) (grown S)) s.low (let a = sub_low in omega arith)) U'
 
-              pub sub_low_stops : (t.stop ≡ 0 → ⊥) → Done l₃ w₃ t
+              pub sub_low_stops : (stop_of t ≡ 0 → ⊥) → Done l₃ w₃ t
               sub_low_stops off = ran_as sub_is (low_stops _ _ (over_test k) Q ok S ok₁ U off)
 
-              pub over_asks : t.stop ≡ 0 → Table rule_of cap l₃ w₃ t.count × (k ≤ conditions_most) × (p.at < t.count) × (h.at < t.count) × (t.at < t.count)
+              pub over_asks : stop_of t ≡ 0 → Table rule_of cap l₃ w₃ (count_of t) × (k ≤ conditions_most) × ((at_of p) < (count_of t)) × ((at_of h) < (count_of t)) × ((at_of t) < (count_of t))
               over_asks ok₂ = (U.table, sub_most, (let a = Q.within ok in let b = S.more in let c = U.more in omega arith), lt_of_lt_of_le (S.within ok₁) U.more, U.within ok₂)
 
-              pub sub_made : t.stop ≡ 0 → {l₄ : List ℤ} {w₄ : List ℕ} {r : Made} → RuleRan rule_of cap l₃ w₃ t.count
-                  (over_test k (tree_at l₃ t.count p.at) (tree_at l₃ t.count h.at) (tree_at l₃ t.count t.at)) l₄ w₄ r → Done l₄ w₄ r
+              pub sub_made : stop_of t ≡ 0 → {l₄ : List ℤ} {w₄ : List ℕ} {r : Answer} → RuleRan rule_of cap l₃ w₃ (count_of t)
+                  (over_test k (tree_at l₃ (count_of t) (at_of p)) (tree_at l₃ (count_of t) (at_of h)) (tree_at l₃ (count_of t) (at_of t))) l₄ w₄ r → Done l₄ w₄ r
               sub_made ok₂ P = ran_as sub_is (all_made _ _ (over_test k) Q ok S ok₁ U ok₂ P)
 
 -- ---- the parts of a branch

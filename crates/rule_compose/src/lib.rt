@@ -17,7 +17,7 @@ use rule_compose_entry::{condition_at, recall, retain};
 use rule_node::codes::CHOOSE_LATER;
 use rule_tests::below_at;
 use rule_walk::walk;
-use table::Made;
+use table::{Made, Stopped};
 
 // What comes before the branches: the linear diagram of a test; f itself, unused, for a condition k.
 fn head(
@@ -28,18 +28,14 @@ fn head(
     f: usize,
     k: usize,
     levels: &[u32],
-) -> Made
+) -> Result<Made, Stopped>
     requires { Table rule_of cap nodes.old work.old count × (f < count) × Levels count levels.now }
     ensures { RuleRan rule_of cap nodes.old work.old count (head_of k (levels_at nodes.old count levels.now) (linear_held (node_at nodes.old f)) (tree_at nodes.old count f)) nodes.new work.new result }
 {
     if k == 0 {
         return linear_diagram(nodes, work, cap, count, f, levels);
     }
-    Made {
-        stop: 0,
-        at: f,
-        count,
-    }
+    Ok(Made { at: f, count })
 }
 
 // What is made of the branches h and l: a test walks its diagram p, a condition k is the next step's.
@@ -52,7 +48,7 @@ fn over_test(
     p: usize,
     h: usize,
     l: usize,
-) -> Made
+) -> Result<Made, Stopped>
     requires { Table rule_of cap nodes.old work.old count × (k ≤ conditions_most) × (p < count) × (h < count) × (l < count) }
     ensures { RuleRan rule_of cap nodes.old work.old count (over_test k (tree_at nodes.old count p) (tree_at nodes.old count h) (tree_at nodes.old count l)) nodes.new work.new result }
 {
@@ -70,16 +66,12 @@ fn at_leaf(
     count: usize,
     f: usize,
     levels: &[u32],
-) -> Made
+) -> Result<Made, Stopped>
     requires { Table rule_of cap nodes.old work.old count × (f < count) × Levels count levels.now × (is_leaf (node_at nodes.old f).kind ≡ true) }
     ensures { RuleRan rule_of cap nodes.old work.old count (R.substitute (levels_at nodes.old count levels.now) (tree_at nodes.old count f)) nodes.new work.new result }
 {
     if table::none_at(nodes, f) {
-        return Made {
-            stop: 0,
-            at: f,
-            count,
-        };
+        return Ok(Made { at: f, count });
     }
     linear_diagram(nodes, work, cap, count, f, levels)
 }
@@ -92,7 +84,7 @@ pub fn substitute(
     count: usize,
     f: usize,
     levels: &[u32],
-) -> Made
+) -> Result<Made, Stopped>
     requires { Table rule_of cap nodes.old work.old count × (f < count) × Levels count levels.now }
     ensures { RuleRan rule_of cap nodes.old work.old count (R.substitute (levels_at nodes.old count levels.now) (tree_at nodes.old count f)) nodes.new work.new result }
 {
@@ -100,31 +92,14 @@ pub fn substitute(
     if s.ends {
         return at_leaf(nodes, work, cap, count, f, levels);
     }
-    let c = recall(work, cap, f, levels);
-    if c != 0 {
-        return Made {
-            stop: 0,
-            at: c - 1,
-            count,
-        };
+    if let Some(at) = recall(work, cap, f, levels) {
+        return Ok(Made { at, count });
     }
     let k = condition_at(nodes, f);
-    let p = head(nodes, work, cap, count, f, k, levels);
-    if p.stop != 0 {
-        return p;
-    }
-    let h = substitute(nodes, work, cap, p.count, s.high, levels);
-    if h.stop != 0 {
-        return h;
-    }
-    let l = substitute(nodes, work, cap, h.count, s.low, levels);
-    if l.stop != 0 {
-        return l;
-    }
-    let r = over_test(nodes, work, cap, l.count, k, p.at, h.at, l.at);
-    if r.stop != 0 {
-        return r;
-    }
+    let p = head(nodes, work, cap, count, f, k, levels)?;
+    let h = substitute(nodes, work, cap, p.count, s.high, levels)?;
+    let l = substitute(nodes, work, cap, h.count, s.low, levels)?;
+    let r = over_test(nodes, work, cap, l.count, k, p.at, h.at, l.at)?;
     retain(work, cap, f, levels, r.at);
-    r
+    Ok(r)
 }

@@ -1,7 +1,7 @@
 // What a substitution goes by: its entry in the computed cache, and the number of a node's condition.
 #![tactic(auto)]
 
-ghost use Rattle.std.specs.Prelude.{◌≡◌, true, ◌+◌, ◌-◌, ◌<◌, T, pos, get_or};
+ghost use Rattle.std.specs.Prelude.{◌≡◌, true, ◌+◌, ◌-◌, ◌<◌, T, pos, get_or, IfSome};
 ghost use Rattle.std.specs.Int.Signed.{non_neg};
 ghost use Rattle.table.specs.Table.{node_at, eq_ℤ};
 ghost use Rattle.theory.specs.Widths.{levels_most};
@@ -15,7 +15,7 @@ use rule_node::index;
 use table::Node;
 use table_cache::{keep, look};
 
-// The words of an entry in the cache.
+// The words of an entry in the cache: five, as the cache's room is fixed, and laid out as `indexes` reads them.
 #[derive(Clone, Copy)]
 pub struct Words {
     pub op: usize,
@@ -72,10 +72,10 @@ fn key(f: usize, levels: &[u32]) -> Words
     Words { op, f: at, g, p, q }
 }
 
-// What the cache has of the diagram at f with these levels, one more than its index, or 0.
-pub fn recall(work: &[u32], cap: usize, f: usize, levels: &[u32]) -> usize
+// What the cache has of the diagram at f with these levels.
+pub fn recall(work: &[u32], cap: usize, f: usize, levels: &[u32]) -> Option<usize>
     requires { WorkRoom cap work.now × (f < 65536) × Levels 65536 levels.now }
-    ensures { (result ≡ 0 → ⊥) → HeldEntry cap work.now (entry_words f levels.now) (result - 1) }
+    ensures { IfSome result (HeldEntry cap work.now (entry_words f levels.now)) }
 {
     let k = key(f, levels);
     look(work, cap, k.op, k.f, k.g, k.p, k.q)

@@ -6,7 +6,7 @@ use native.Mathlib.Nat.{lt_of_lt_of_le}
 use native.Mathlib.Omega.{arith}
 use lib.IntN.{ℤ}
 use mathlib.Core.Bool.{true, false}
-use Rattle.table.specs.declared.Made.{Made}
+use Rattle.table.specs.Table.{Answer, stop_of, at_of, count_of}
 use Rattle.theory.specs.Widths.{conditions_most, weights_most}
 use Rattle.theory.specs.Diagram.{Tree}
 use Rattle.theory.specs.Computation.{Comp, bind}
@@ -28,19 +28,19 @@ no_picks a b = record { from = omega arith; to = omega arith; some = a; most = b
 
 -- ---- a weighted side
 
-module _ {cap : ℕ} {l l₁ : List ℤ} {w w₁ : List ℕ} {n : ℕ} {m : Comp Tree} (v : ℕ) (hv : v < n) {y : Made} (Q : RuleRan rule_of cap l w n m l₁ w₁ y) where
-  abbrev Weighted : List ℤ → List ℕ → Made → Type 0
+module _ {cap : ℕ} {l l₁ : List ℤ} {w w₁ : List ℕ} {n : ℕ} {m : Comp Tree} (v : ℕ) (hv : v < n) {y : Answer} (Q : RuleRan rule_of cap l w n m l₁ w₁ y) where
+  abbrev Weighted : List ℤ → List ℕ → Answer → Type 0
   Weighted = RuleRan rule_of cap l w n (bind m (product (tree_at l n v)))
 
-  pub weighted_stops : (y.stop ≡ 0 → ⊥) → Weighted l₁ w₁ y
+  pub weighted_stops : (stop_of y ≡ 0 → ⊥) → Weighted l₁ w₁ y
   weighted_stops off = stop _ Q off
 
-  module _ (ok : y.stop ≡ 0) where
-    pub weighted_asks : Table rule_of cap l₁ w₁ y.count × (1 ≤ 2) × (v < y.count) × (y.at < y.count)
-    weighted_asks = (Q.table, omega arith, lt_of_lt_of_le hv Q.more, Q.within ok)
+  module _ (ok : stop_of y ≡ 0) where
+    pub weighted_asks : Table rule_of cap l₁ w₁ (count_of y) × (v < (count_of y)) × ((at_of y) < (count_of y))
+    weighted_asks = (Q.table, lt_of_lt_of_le hv Q.more, Q.within ok)
 
-    pub weighted_made : {l₂ : List ℤ} {w₂ : List ℕ} {r : Made} → RuleRan rule_of cap l₁ w₁ y.count (rule_of l₁ y.count 1 v y.at 0 0) l₂ w₂ r → Weighted l₂ w₂ r
-    weighted_made P = seq _ Q ok (ran_as (rule_product l₁ y.count v y.at 0 0 ∙ ap (λ (z : Tree). product z (tree_at l₁ y.count y.at)) (trees_kept (grown Q) v hv)) P)
+    pub weighted_made : {l₂ : List ℤ} {w₂ : List ℕ} {r : Answer} → RuleRan rule_of cap l₁ w₁ (count_of y) (rule_of l₁ (count_of y) 1 v (at_of y) 0 0) l₂ w₂ r → Weighted l₂ w₂ r
+    weighted_made P = seq _ Q ok (ran_as (rule_product l₁ (count_of y) v (at_of y) 0 0 ∙ ap (λ (z : Tree). product z (tree_at l₁ (count_of y) (at_of y))) (trees_kept (grown Q) v hv)) P)
 
 -- ---- both sides
 
@@ -64,39 +64,39 @@ module _ {cap : ℕ} {l : List ℤ} {w : List ℕ} {n : ℕ} (A : Table rule_of 
   whole_is : bind (bind yes (product D)) (λ P. bind (complement W D) (λ u. bind (bind no (product u)) (λ Q. sum P Q))) ≡ expectation W D k (tree_at l n f)
   whole_is = (λ i. bind (bind (rule_yes l n f 0 k 0 i) (product D)) (λ P. bind (complement W D) (λ u. bind (bind (rule_no l n f 0 k 0 i) (product u)) (λ Q. sum P Q)))) ∙ paired W k D (tree_at l n f)
 
-  abbrev Expected : List ℤ → List ℕ → Made → Type 0
+  abbrev Expected : List ℤ → List ℕ → Answer → Type 0
   Expected = RuleRan rule_of cap l w n (expectation W D k (tree_at l n f))
 
-  module _ {l₁ : List ℤ} {w₁ : List ℕ} {p : Made} (Q : RuleRan rule_of cap l w n (bind yes (product D)) l₁ w₁ p) where
-    pub yes_stops : (p.stop ≡ 0 → ⊥) → Expected l₁ w₁ p
+  module _ {l₁ : List ℤ} {w₁ : List ℕ} {p : Answer} (Q : RuleRan rule_of cap l w n (bind yes (product D)) l₁ w₁ p) where
+    pub yes_stops : (stop_of p ≡ 0 → ⊥) → Expected l₁ w₁ p
     yes_stops off = ran_as whole_is (stop _ Q off)
 
-    pub complement_asks : Table rule_of cap l₁ w₁ p.count × (v < p.count) × (W ≤ weights_most)
+    pub complement_asks : Table rule_of cap l₁ w₁ (count_of p) × (v < (count_of p)) × (W ≤ weights_most)
     complement_asks = (Q.table, lt_of_lt_of_le hv Q.more, hW)
 
-    module _ (ok : p.stop ≡ 0) {l₂ : List ℤ} {w₂ : List ℕ} {u : Made} (S' : RuleRan rule_of cap l₁ w₁ p.count (complement W (tree_at l₁ p.count v)) l₂ w₂ u) where
-      S : RuleRan rule_of cap l₁ w₁ p.count (complement W D) l₂ w₂ u
+    module _ (ok : stop_of p ≡ 0) {l₂ : List ℤ} {w₂ : List ℕ} {u : Answer} (S' : RuleRan rule_of cap l₁ w₁ (count_of p) (complement W (tree_at l₁ (count_of p) v)) l₂ w₂ u) where
+      S : RuleRan rule_of cap l₁ w₁ (count_of p) (complement W D) l₂ w₂ u
       S = ran_as (ap (complement W) (trees_kept (grown Q) v hv)) S'
 
-      pub complement_stops : (u.stop ≡ 0 → ⊥) → Expected l₂ w₂ u
+      pub complement_stops : (stop_of u ≡ 0 → ⊥) → Expected l₂ w₂ u
       complement_stops off = ran_as whole_is (seq _ Q ok (stop _ S off))
 
-      module _ (ok₁ : u.stop ≡ 0) where
-        pub no_asks : 0 < k → k ≤ conditions_most → Table rule_of cap l₂ w₂ u.count × Picks 8 k × (u.at < u.count) × (f < u.count)
+      module _ (ok₁ : stop_of u ≡ 0) where
+        pub no_asks : 0 < k → k ≤ conditions_most → Table rule_of cap l₂ w₂ (count_of u) × Picks 8 k × ((at_of u) < (count_of u)) × (f < (count_of u))
         no_asks a b = (S.table, no_picks a b, S.within ok₁, (let x = Q.more in let y = S.more in omega arith))
 
-        module _ {l₃ : List ℤ} {w₃ : List ℕ} {q : Made} (U' : RuleRan rule_of cap l₂ w₂ u.count (bind (rule_of l₂ u.count 8 f 0 k 0) (product (tree_at l₂ u.count u.at))) l₃ w₃ q) where
-          U : RuleRan rule_of cap l₂ w₂ u.count (bind no (product (tree_at l₂ u.count u.at))) l₃ w₃ q
-          U = ran_as (ap (λ (m : Comp Tree). bind m (product (tree_at l₂ u.count u.at))) (lasts_no l n f hf 0 k 0 l₂ u.count (grown_on (grown Q) (grown S)))) U'
+        module _ {l₃ : List ℤ} {w₃ : List ℕ} {q : Answer} (U' : RuleRan rule_of cap l₂ w₂ (count_of u) (bind (rule_of l₂ (count_of u) 8 f 0 k 0) (product (tree_at l₂ (count_of u) (at_of u)))) l₃ w₃ q) where
+          U : RuleRan rule_of cap l₂ w₂ (count_of u) (bind no (product (tree_at l₂ (count_of u) (at_of u)))) l₃ w₃ q
+          U = ran_as (ap (λ (m : Comp Tree). bind m (product (tree_at l₂ (count_of u) (at_of u)))) (lasts_no l n f hf 0 k 0 l₂ (count_of u) (grown_on (grown Q) (grown S)))) U'
 
-          pub no_stops : (q.stop ≡ 0 → ⊥) → Expected l₃ w₃ q
+          pub no_stops : (stop_of q ≡ 0 → ⊥) → Expected l₃ w₃ q
           no_stops off = ran_as whole_is (seq _ Q ok (seq _ S ok₁ (stop _ U off)))
 
-          module _ (ok₂ : q.stop ≡ 0) where
-            pub sum_asks : Table rule_of cap l₃ w₃ q.count × (0 ≤ 2) × (p.at < q.count) × (q.at < q.count)
-            sum_asks = (U.table, omega arith, (let a = Q.within ok in let x = S.more in let y = U.more in omega arith), U.within ok₂)
+          module _ (ok₂ : stop_of q ≡ 0) where
+            pub sum_asks : Table rule_of cap l₃ w₃ (count_of q) × ((at_of p) < (count_of q)) × ((at_of q) < (count_of q))
+            sum_asks = (U.table, (let a = Q.within ok in let x = S.more in let y = U.more in omega arith), U.within ok₂)
 
-            pub expected : {l₄ : List ℤ} {w₄ : List ℕ} {r : Made} → RuleRan rule_of cap l₃ w₃ q.count (rule_of l₃ q.count 0 p.at q.at 0 0) l₄ w₄ r → Expected l₄ w₄ r
+            pub expected : {l₄ : List ℤ} {w₄ : List ℕ} {r : Answer} → RuleRan rule_of cap l₃ w₃ (count_of q) (rule_of l₃ (count_of q) 0 (at_of p) (at_of q) 0 0) l₄ w₄ r → Expected l₄ w₄ r
             expected P = ran_as whole_is (seq _ Q ok (seq _ S ok₁ (seq _ U ok₂ (ran_as
-                (rule_sum l₃ q.count p.at q.at 0 0 ∙ ap (λ (z : Tree). sum z (tree_at l₃ q.count q.at))
-                (trees_kept (grown_on (grown S) (grown U)) p.at (Q.within ok))) P))))
+                (rule_sum l₃ (count_of q) (at_of p) (at_of q) 0 0 ∙ ap (λ (z : Tree). sum z (tree_at l₃ (count_of q) (at_of q)))
+                (trees_kept (grown_on (grown S) (grown U)) (at_of p) (Q.within ok))) P))))

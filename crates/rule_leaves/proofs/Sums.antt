@@ -2,19 +2,22 @@
 use mathlib.Core.Path.{◌≡◌, refl, sym, ap, ap₂, ◌∙◌}
 use mathlib.Core.Bool.{Bool, true, false, ◌&&◌}
 use mathlib.Core.List.{List, [], ◌∷◌, map}
-use Prim.Native.Nat.{ℕ, zero, suc, ◌+◌, ◌^◌, ◌≤◌, ◌<◌}
+use Prim.Native.Nat.{ℕ, zero, suc, ◌^◌, ◌<◌}
 use native.Mathlib.Omega.{arith}
 use borrow.Author.Tests.{leb-true}
 use lib.Dec.{compare_is_eq}
 use lib.IntN.{ℤ, pos, negsuc, ◌+ℤ◌, ◌*ℤ◌}
-use lib.ListN.{length, get_or, take, drop, drop_of_length-le}
-use lib.Seq.{length-take-le, get_or-take}
+use lib.ListN.{length, get_or, take}
 use mir.Syntax.{w64}
 use mir.Val.{SFits, of_z}
 use lib.Signed.{le_z, mag}
-use Rattle.whole.specs.Cases.{if, from_true}
+use Rattle.whole.specs.Cases.{if, both, and_in, from_true, is_true, same_bool}
+use Rattle.std.specs.Prelude.{IsTrue, ◌↔◌, T}
+use Rattle.std.specs.List.{All}
+use Rattle.std.proofs.lemmas.List.Elements.{All-nil, All-cons, All-head, All-tail}
+use mathlib.Core.Path.{subst}
 use Rattle.whole.specs.Linears.{numbers, clipped, clip_list}
-use Rattle.whole.specs.LinearsLaws.{add_take, add_at, scale_length, scale_take, scale_at, clip_at, sub_length, rest}
+use Rattle.whole.specs.LinearsLaws.{add_take, add_at, scale_length, scale_take, scale_at, clip_at, sub_length}
 use Rattle.whole.specs.Within.{small}
 use Rattle.whole.proofs.Clipped.{small_clipped, clipped_in}
 use Rattle.whole.proofs.Signed.{R, back}
@@ -185,30 +188,23 @@ zero_no z n = go (compare_is_eq (cmp_ℤ z (pos 0))) refl
     go true e = absurd (n (ap (of_z w64) (cmp_ℤ_eq z (pos 0) (from_true e))))
     go false e = refl
 
--- what is left of the coefficients decides
-module _ (a : List ℤ) (n : length a ≡ numbers) (i : ℕ) (is : zeros (drop i (take levels_most a)) ≡ zeros (take levels_most a)) where
-  abbrev z : ℤ
-  z = get_or a i (pos 0)
+-- numbers are all 0
+abbrev Zero : ℤ → Type 0
+Zero z = z ≡ pos 0
 
-  firsts : length (take levels_most a) ≡ levels_most
-  firsts = length-take-le levels_most a (omega arith)
+zeros_in : (l : List ℤ) → All Zero l → T (zeros l)
+unfolding zeros
+zeros_in [] h = tt
+zeros_in (z ∷ l) h =
+    and_in (compare_is_eq (cmp_ℤ z (pos 0))) (zeros l) (subst (λ (y : ℤ). T (compare_is_eq (cmp_ℤ y (pos 0)))) {x = pos 0} {y = z} (sym (All-head Zero z l h)) tt) (zeros_in l (All-tail Zero z l h))
 
-  here : i < levels_most → (compare_is_eq (cmp_ℤ z (pos 0)) && zeros (drop (i + 1) (take levels_most a))) ≡ zeros (take levels_most a)
-  unfolding zeros
-  here h =
-      ap (λ (y : ℤ). compare_is_eq (cmp_ℤ y (pos 0)) && zeros (drop (i + 1) (take levels_most a))) (sym (get_or-take levels_most a i (pos 0) h))
-      ∙ (sym (ap zeros (rest (take levels_most a) i (let w = firsts in omega arith))) ∙ is)
+zeros_out : (l : List ℤ) → T (zeros l) → All Zero l
+unfolding zeros
+zeros_out [] t = All-nil Zero
+zeros_out (z ∷ l) t = let d = both (compare_is_eq (cmp_ℤ z (pos 0))) (zeros l) t in All-cons Zero z l (cmp_ℤ_eq z (pos 0) d.0) (zeros_out l d.1)
 
-  module _ (h : i < levels_most) where
-    pub one_not_zero : (of_z w64 z ≡ 0 → ⊥) → false ≡ zeros (take levels_most a)
-    one_not_zero q = ap (λ (b : Bool). b && zeros (drop (i + 1) (take levels_most a))) (sym (zero_no z q)) ∙ here h
-
-    pub one_zero : mag z < 2 ^ 63 → of_z w64 z ≡ 0 → zeros (drop (i + 1) (take levels_most a)) ≡ zeros (take levels_most a)
-    one_zero f q = ap (λ (b : Bool). b && zeros (drop (i + 1) (take levels_most a))) (sym (zero_yes z f q)) ∙ here h
-
-  pub all_zero : levels_most ≤ i → true ≡ zeros (take levels_most a)
-  unfolding zeros
-  all_zero h = sym (ap zeros (drop_of_length-le (take levels_most a) {i = i} (let w = firsts in omega arith))) ∙ is
+pub zeros_told : {b : Bool} (l : List ℤ) → (IsTrue b ↔ All Zero l) → b ≡ zeros l
+zeros_told {b} l t = same_bool b (zeros l) (λ h. zeros_in l (t.0 (is_true b h))) (λ h. from_true (t.1 (zeros_out l h)))
 
 module _ (k : ℤ) (f g : ℕ) (fk : SFits w64 k) where
   pub decided_is : (b : Bool) → le_z (R k) (pos 0) ≡ b → if b f g ≡ if (le_z k (pos 0)) f g

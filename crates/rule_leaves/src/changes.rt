@@ -15,8 +15,7 @@ pub fn shifted(x: Node, c: i64) -> Node
     ensures { result ≡ shift_node c x }
 {
     let mut n = x.n;
-    let z = n[COEFFICIENTS] + c;
-    n[COEFFICIENTS] = z;
+    n[COEFFICIENTS] += c;
     leaf_of(n)
 }
 
@@ -26,8 +25,7 @@ pub fn complemented(x: Node, weights: usize) -> Node
     ensures { result ≡ complement_node weights x }
 {
     let mut n = x.n;
-    let z = weights as i64 - n[COEFFICIENTS];
-    n[COEFFICIENTS] = z;
+    n[COEFFICIENTS] = weights as i64 - n[COEFFICIENTS];
     leaf_of(n)
 }
 

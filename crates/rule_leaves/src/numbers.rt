@@ -28,9 +28,7 @@ pub fn plus(x: Node, y: Node) -> Node
     requires { Nums x × Nums y }
     ensures { result ≡ sum_node x y }
 {
-    let a = x.n;
-    let b = y.n;
-    leaf_of(add(a, b))
+    leaf_of(add(x.n, y.n))
 }
 
 // x - y.
@@ -38,17 +36,14 @@ pub fn less(x: Node, y: Node) -> Node
     requires { Nums x × Nums y }
     ensures { result ≡ less_node x y }
 {
-    let a = x.n;
-    let b = y.n;
-    leaf_of(sub(a, b))
+    leaf_of(sub(x.n, y.n))
 }
 
 // k × y; a number beyond the limits is seen to be.
 pub fn product(k: i64, y: Node) -> Node
     ensures { result ≡ product_node k y }
 {
-    let a = y.n;
-    leaf_of(times(k, a))
+    leaf_of(times(k, y.n))
 }
 
 // Whether k times the leaf at index g is the leaf "none".
@@ -56,34 +51,21 @@ pub fn stays_none(nodes: &[i64], k: i64, g: usize) -> bool
     requires { g * node_words + node_words ≤ length nodes.now }
     ensures { result ≡ stays_none k (node_at nodes.now g) }
 {
-    if k == 0 {
-        return false;
-    }
-    table::none_at(nodes, g)
+    k != 0 && table::none_at(nodes, g)
 }
 
 // A linear's constant.
 pub fn constant(x: Node) -> i64
     ensures { result ≡ constant_of x }
 {
-    let n = x.n;
-    n[COEFFICIENTS]
+    x.n[COEFFICIENTS]
 }
 
 // Whether a linear has no coefficient but 0.
 pub fn is_constant(x: Node) -> bool
     ensures { result ≡ zeros (linear_held x).coeffs }
 {
-    let n = x.n;
-    let mut i: usize = 0;
-    while i < COEFFICIENTS {
-        let z = n[i];
-        if z != 0 {
-            return false;
-        }
-        i += 1;
-    }
-    true
+    x.n[..COEFFICIENTS].iter().all(|&z| z == 0)
 }
 
 // f where k ≤ 0, and else g.

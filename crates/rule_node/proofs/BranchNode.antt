@@ -12,9 +12,8 @@ use mir.Val.{to_z}
 use Rattle.whole.specs.Cases.{if}
 use Rattle.table.proofs.Words.{R, back}
 use Rattle.table.proofs.Leaf.{branch_not}
-use Rattle.table.specs.Table.{node_words, node_at, is_leaf}
+use Rattle.table.specs.Table.{Answer, made, node_words, node_at, is_leaf}
 use Rattle.table.specs.declared.Node.{Node}
-use Rattle.table.specs.declared.Made.{Made}
 use Rattle.theory.specs.Diagram.{Tree, branch, same}
 use Rattle.theory.specs.Computation.{ret, make}
 use Rattle.theory.specs.Rules.{narrowed, node}
@@ -49,7 +48,7 @@ literal t f h l qh ql = λ i. record { kind = back t.kind f i; n = t.n; high = b
 
 module _ {cap : ℕ} {s : List ℤ} {w : List ℕ} {n : ℕ} (A : Bare cap s w n) (t : Node) (P : Proper t) (h l k : ℕ) (hh : h < n) (hk : k < n) (low : tree_at s n k ≡ narrowed (test_held t) (tree_at s n l)) where
   -- the branches are one
-  pub join_same : h ≡ k → Grew cap s w n (node (test_held t) (tree_at s n h) (tree_at s n l)) s w (record { stop = 0; at = h; count = n })
+  pub join_same : h ≡ k → Grew cap s w n (node (test_held t) (tree_at s n h) (tree_at s n l)) s w (made h n)
   join_same e = grew_as (sym (node_yes t (tree_at s n h) (tree_at s n l) (tree_at s n k) low (ap (λ (j : ℕ). same (tree_at s n h) (tree_at s n j)) (sym e) ∙ same_refl (tree_at s n h)))) (grew_ret A h hh)
 
   valid_over : Valid (over_node t (pos h) (pos k)) n
@@ -88,7 +87,7 @@ module _ {cap : ℕ} {s : List ℤ} {w : List ℕ} {n : ℕ} (A : Bare cap s w n
     tree_is = tree_branch (over_node t (pos h) (pos k)) (trees s n) P.branches
 
     -- they are two
-    pub join_made : {s' : List ℤ} {w' : List ℕ} {r : Made} → Grew cap s w n (make (tree_of x' (trees s n))) s' w' r → Grew cap s w n (node (test_held t) (tree_at s n h) (tree_at s n l)) s' w' r
+    pub join_made : {s' : List ℤ} {w' : List ℕ} {r : Answer} → Grew cap s w n (make (tree_of x' (trees s n))) s' w' r → Grew cap s w n (node (test_held t) (tree_at s n h) (tree_at s n l)) s' w' r
     join_made R =
         grew_as (ap (λ (z : Node). make (tree_of z (trees s n))) is ∙ (ap make tree_is ∙ sym (node_no t (tree_at s n h) (tree_at s n l) (tree_at s n k) low (same_not (tree_at s n h) (tree_at s n k) (λ q. e (A.good.distinct h k hh hk q)))))) R
 

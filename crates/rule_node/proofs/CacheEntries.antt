@@ -9,9 +9,9 @@ use borrow.Author.Tests.{eqb-true, eqb-false, ltb-true, ltb-false}
 use lib.Dec.{ltb, eqb}
 use lib.IntN.{ℤ}
 use lib.ListN.{length, get_or}
+use Rattle.table.specs.Table.{Answer, stop_of, at_of, count_of, made}
 use Rattle.table_cache.specs.Cache.{slot_of, Key, WorkRoom, CacheEntry, store_of}
 use Rattle.table_cache.proofs.Entries.{slot_at, slot_lt, store_other, store_length, at_op, at_f, at_g, at_p, at_q, at_full}
-use Rattle.table.specs.declared.Made.{Made}
 use Rattle.table_unique.specs.Unique.{Chained}
 use Rattle.theory.specs.Diagram.{Tree}
 use Rattle.theory.specs.Computation.{Comp, done, run, member}
@@ -27,7 +27,7 @@ room_in A = let C = A.bare.chained in record { some = C.space.some; few = C.spac
 
 -- an entry answers what its words mean
 pub answered : {R : EntryRule} {cap : ℕ} {l : List ℤ} {w : List ℕ} {n : ℕ} → Table R cap l w n → (op f g p q k : ℕ) → CacheEntry w (slot_of cap op f g p q) op f g p q k
-    → RuleRan R cap l w n (R l n op f g p q) l w (record { stop = 0; at = k; count = n })
+    → RuleRan R cap l w n (R l n op f g p q) l w (made k n)
 unfolding out_of
 answered {cap = cap} {l} {w} {n} A op f g p q k E =
     let s = slot_at cap op f g p q A.bare.chained.space.some in
@@ -123,27 +123,27 @@ there {l} {l'} {n} {n'} G u e =
     member_in blank u (trees l' n') p.0 (omega arith) (trees_kept G p.0 (omega arith) ∙ p.2)
 
 -- what a run left stands, where the meaning lasts
-pub stands_new : {R : EntryRule} {cap : ℕ} {l l' : List ℤ} {w w' : List ℕ} {n op f g p q : ℕ} {r : Made} → Lasting R l n op f g p q → RuleRan R cap l w n
-    (R l n op f g p q) l' w' r → r.stop ≡ 0 → ResultStands R cap l' r.count op f g p q r.at
+pub stands_new : {R : EntryRule} {cap : ℕ} {l l' : List ℤ} {w w' : List ℕ} {n op f g p q : ℕ} {r : Answer} → Lasting R l n op f g p q → RuleRan R cap l w n
+    (R l n op f g p q) l' w' r → stop_of r ≡ 0 → ResultStands R cap l' (count_of r) op f g p q (at_of r)
 stands_new {R} {cap} {l} {l'} {n = n} {op} {f} {g} {p} {q} {r} L Q ok = record {
   result = Q.within ok;
   again = λ l'' n'' H.
       ap (λ (m : Comp Tree). run cap m (trees l'' n'')) (L l'' n'' (grown_on (grown Q) H))
-      ∙ (rerun cap (R l n op f g p q) (trees l n) (trees l'' n'') (trees l' r.count) (tree_at l' r.count r.at) (sym Q.ran ∙ out_ok r (trees l' r.count) ok) (there H)
-      ∙ ap (λ (t : Tree). done t (trees l'' n'')) (sym (trees_kept H r.at (Q.within ok))));
+      ∙ (rerun cap (R l n op f g p q) (trees l n) (trees l'' n'') (trees l' (count_of r)) (tree_at l' (count_of r) (at_of r)) (sym Q.ran ∙ out_ok r (trees l' (count_of r)) ok) (there H)
+      ∙ ap (λ (t : Tree). done t (trees l'' n'')) (sym (trees_kept H (at_of r) (Q.within ok))));
 }
 
 -- kept after a run
-pub kept_run : {R : EntryRule} {cap : ℕ} {l l' : List ℤ} {w w' w'' : List ℕ} {n op f g p q : ℕ} {r : Made} → Lasting R l n op f g p q → RuleRan R cap l w n
-    (R l n op f g p q) l' w' r → r.stop ≡ 0 → w'' ≡ store_of w' (slot_of cap op f g p q) op f g p q r.at → RuleRan R cap l w n (R l n op f g p q) l' w'' r
+pub kept_run : {R : EntryRule} {cap : ℕ} {l l' : List ℤ} {w w' w'' : List ℕ} {n op f g p q : ℕ} {r : Answer} → Lasting R l n op f g p q → RuleRan R cap l w n
+    (R l n op f g p q) l' w' r → stop_of r ≡ 0 → w'' ≡ store_of w' (slot_of cap op f g p q) op f g p q (at_of r) → RuleRan R cap l w n (R l n op f g p q) l' w'' r
 kept_run {R} {cap} {l} {l'} {n = n} {op} {f} {g} {p} {q} {r} L Q ok e = record {
   ran = Q.ran;
-  table = subst (λ (z : List ℕ). Table R cap l' z r.count) (sym e) (stored Q.table op f g p q r.at (stands_new L Q ok));
+  table = subst (λ (z : List ℕ). Table R cap l' z (count_of r)) (sym e) (stored Q.table op f g p q (at_of r) (stands_new L Q ok));
   within = Q.within;
   more = Q.more;
   kept = Q.kept;
 }
 
 -- what a store into the cache asks, after a run
-pub keepable : {R : EntryRule} {cap : ℕ} {l l' : List ℤ} {w w' : List ℕ} {n : ℕ} {m : Comp Tree} {r : Made} {op f g p q : ℕ} → RuleRan R cap l w n m l' w' r → r.stop ≡ 0 → Key op f g p q → WorkRoom cap w' × Key op f g p q × (r.at < 65536)
-keepable {r = r} Q ok K = (room_in Q.table, K, index_small r.at Q.table.bare (Q.within ok))
+pub keepable : {R : EntryRule} {cap : ℕ} {l l' : List ℤ} {w w' : List ℕ} {n : ℕ} {m : Comp Tree} {r : Answer} {op f g p q : ℕ} → RuleRan R cap l w n m l' w' r → stop_of r ≡ 0 → Key op f g p q → WorkRoom cap w' × Key op f g p q × ((at_of r) < 65536)
+keepable {r = r} Q ok K = (room_in Q.table, K, index_small (at_of r) Q.table.bare (Q.within ok))

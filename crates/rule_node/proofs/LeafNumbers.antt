@@ -14,9 +14,9 @@ use Rattle.whole.specs.LinearsLaws.{smalls_of}
 use Rattle.whole.specs.Within.{small, Small}
 use Rattle.theory.specs.Widths.{levels_most}
 use Rattle.table.proofs.Leaf.{leaf_as, some_as, some_not, none_as, none_leaf as none-leaf-kind, branch_not}
-use Rattle.table.specs.Table.{node_at, is_leaf}
+use Rattle.table.specs.Table.{Answer, halted, node_at, is_leaf}
 use Rattle.table.specs.declared.Node.{Node}
-use Rattle.table.specs.declared.Made.{Made}
+use Rattle.table.specs.declared.Stop.TheVariants.{Over}
 use Rattle.theory.specs.Diagram.{some, Tree, leaf, plain}
 use Rattle.theory.specs.Computation.{make}
 use Rattle.theory.specs.Rules.{make_leaf, none_leaf}
@@ -60,7 +60,7 @@ plain_leaf : {s : Node} → Plain s → is_leaf s.kind ≡ true
 plain_leaf P = leaf_as P.kind
 
 module _ {cap : ℕ} {l : List ℤ} {w : List ℕ} {n : ℕ} (A : Bare cap l w n) (s : Node) (long : length s.n ≡ numbers) (P : Plain s) {b : Bool} (eb : b ≡ small_linear (linear_held s)) where
-  pub leaf_over : b ≡ false → Grew cap l w n (make_leaf (linear_held s)) l w (record { stop = 11; at = 0; count = n })
+  pub leaf_over : b ≡ false → Grew cap l w n (make_leaf (linear_held s)) l w (halted Over n)
   unfolding make_leaf
   leaf_over e = grew_over (linear_held s) (make (leaf (plain (linear_held s)))) A (sym eb ∙ e)
 
@@ -80,7 +80,7 @@ module _ {cap : ℕ} {l : List ℤ} {w : List ℕ} {n : ℕ} (A : Bare cap l w n
     tree_is : tree_of s (trees l n) ≡ leaf (plain (linear_held s))
     tree_is = tree_leaf s (trees l n) (plain_leaf P) ∙ (ap leaf (leaf_some s (some_as P.kind)) ∙ ap (λ (z : ℤ). leaf (some (linear_held s) (nat_abs z))) P.high)
 
-    pub leaf_made : {l₁ : List ℤ} {w₁ : List ℕ} {r : Made} → Grew cap l w n (make (tree_of s (trees l n))) l₁ w₁ r → Grew cap l w n (make_leaf (linear_held s)) l₁ w₁ r
+    pub leaf_made : {l₁ : List ℤ} {w₁ : List ℕ} {r : Answer} → Grew cap l w n (make (tree_of s (trees l n))) l₁ w₁ r → Grew cap l w n (make_leaf (linear_held s)) l₁ w₁ r
     unfolding make_leaf
     leaf_made R = grew_judged (linear_held s) (make (leaf (plain (linear_held s)))) (sym eb ∙ e) (grew_as (ap make tree_is) R)
 
@@ -106,7 +106,7 @@ none_valid n = record {
 none_tree : (X : List Tree) → tree_of none_node X ≡ none_leaf
 none_tree X = tree_leaf none_node X (none-leaf-kind (pos 3) (none_as refl)) ∙ ap leaf (leaf_none none_node (none_as refl))
 
-pub none_made : {cap : ℕ} {l l₁ : List ℤ} {w w₁ : List ℕ} {n : ℕ} {r : Made} → Grew cap l w n (make (tree_of none_node (trees l n))) l₁ w₁ r → Grew cap l w n (make none_leaf) l₁ w₁ r
+pub none_made : {cap : ℕ} {l l₁ : List ℤ} {w w₁ : List ℕ} {n : ℕ} {r : Answer} → Grew cap l w n (make (tree_of none_node (trees l n))) l₁ w₁ r → Grew cap l w n (make none_leaf) l₁ w₁ r
 none_made {l = l} {n = n} S = grew_as (ap make (none_tree (trees l n))) S
 
 -- a node's numbers lie within the limits

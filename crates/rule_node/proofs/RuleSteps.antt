@@ -6,9 +6,8 @@ use Prim.Native.Nat.{ℕ, ◌<◌}
 use native.Mathlib.Nat.{lt_of_lt_of_le}
 use native.Mathlib.Omega.{arith}
 use lib.IntN.{ℤ, nat_abs}
-use Rattle.table.specs.Table.{node_at, is_leaf}
+use Rattle.table.specs.Table.{Answer, stop_of, at_of, count_of, node_at, is_leaf}
 use Rattle.table.specs.declared.Node.{Node}
-use Rattle.table.specs.declared.Made.{Made}
 use Rattle.theory.specs.Diagram.{Test, Leaf, Tree, leaf, branch}
 use Rattle.theory.specs.Computation.{Comp, both}
 use Rattle.theory.specs.Rules.{over}
@@ -34,31 +33,31 @@ key_of a b c d e = record { op_fits = omega arith; f_fits = omega arith; g_fits 
 
 -- the rule m at f and g went on with their high sides, and then with their low sides
 module _ {R : EntryRule} (cap : ℕ) (l l₁ : List ℤ) (w w₁ : List ℕ) (n f g : ℕ) (m : Tree → Tree → Comp Tree) (mk : Test → Tree → Tree → Comp Tree) (s : Sides)
-    (o : On l n m mk f g s) (h : Made) (Q : RuleRan R cap l w n (m (tree_at l n s.fh) (tree_at l n s.gh)) l₁ w₁ h) where
-  pub high_stops : (h.stop ≡ 0 → ⊥) → RuleRan R cap l w n (m (tree_at l n f) (tree_at l n g)) l₁ w₁ h
+    (o : On l n m mk f g s) (h : Answer) (Q : RuleRan R cap l w n (m (tree_at l n s.fh) (tree_at l n s.gh)) l₁ w₁ h) where
+  pub high_stops : (stop_of h ≡ 0 → ⊥) → RuleRan R cap l w n (m (tree_at l n f) (tree_at l n g)) l₁ w₁ h
   high_stops off = ran_as (sym o.is) (both_high_stops _ _ Q off)
 
-  module _ (ok : h.stop ≡ 0) (l₂ : List ℤ) (w₂ : List ℕ) (k : Made) (S : RuleRan R cap l₁ w₁ h.count (m (tree_at l₁ h.count s.fl) (tree_at l₁ h.count s.gl)) l₂ w₂ k) where
-    low : RuleRan R cap l₁ w₁ h.count (m (tree_at l n s.fl) (tree_at l n s.gl)) l₂ w₂ k
+  module _ (ok : stop_of h ≡ 0) (l₂ : List ℤ) (w₂ : List ℕ) (k : Answer) (S : RuleRan R cap l₁ w₁ (count_of h) (m (tree_at l₁ (count_of h) s.fl) (tree_at l₁ (count_of h) s.gl)) l₂ w₂ k) where
+    low : RuleRan R cap l₁ w₁ (count_of h) (m (tree_at l n s.fl) (tree_at l n s.gl)) l₂ w₂ k
     low = ran_as (ap₂ m (trees_kept (grown Q) s.fl o.fl) (trees_kept (grown Q) s.gl o.gl)) S
 
-    pub low_stops : (k.stop ≡ 0 → ⊥) → RuleRan R cap l w n (m (tree_at l n f) (tree_at l n g)) l₂ w₂ k
+    pub low_stops : (stop_of k ≡ 0 → ⊥) → RuleRan R cap l w n (m (tree_at l n f) (tree_at l n g)) l₂ w₂ k
     low_stops off = ran_as (sym o.is) (both_low_stops _ _ Q ok low off)
 
     -- the root stands where it stood
-    pub root_on : Root l₂ k.count s.root
+    pub root_on : Root l₂ (count_of k) s.root
     root_on = root_kept (grown S) (root_kept (grown Q) (record { below = o.root; branches = o.test }))
 
-    pub high_in : h.at < k.count
+    pub high_in : at_of h < count_of k
     high_in = both_high_in (mk (test_held (node_at l s.root))) _ Q ok low
 
     -- and with what is made of the two
-    pub joined : k.stop ≡ 0 → (l₃ : List ℤ) (w₃ : List ℕ) (r : Made) → RuleRan R cap l₂ w₂ k.count
-        (mk (test_held (node_at l₂ s.root)) (tree_at l₂ k.count h.at) (tree_at l₂ k.count k.at)) l₃ w₃ r → RuleRan R cap l w n
+    pub joined : stop_of k ≡ 0 → (l₃ : List ℤ) (w₃ : List ℕ) (r : Answer) → RuleRan R cap l₂ w₂ (count_of k)
+        (mk (test_held (node_at l₂ s.root)) (tree_at l₂ (count_of k) (at_of h)) (tree_at l₂ (count_of k) (at_of k))) l₃ w₃ r → RuleRan R cap l w n
         (m (tree_at l n f) (tree_at l n g)) l₃ w₃ r
     joined ok' l₃ w₃ r P =
         ran_as (sym o.is) (both_made _ _ Q ok low ok'
-        (ran_as (ap (λ (x : Node). mk (test_held x) (tree_at l₂ k.count h.at) (tree_at l₂ k.count k.at)) (S.kept s.root (lt_of_lt_of_le o.root Q.more) ∙ Q.kept s.root o.root)) P))
+        (ran_as (ap (λ (x : Node). mk (test_held x) (tree_at l₂ (count_of k) (at_of h)) (tree_at l₂ (count_of k) (at_of k))) (S.kept s.root (lt_of_lt_of_le o.root Q.more) ∙ Q.kept s.root o.root)) P))
 
 -- ---- rules of one operand, each leaf in turn
 

@@ -14,9 +14,9 @@ use lib.Seq.{get_or_at}
 use Rattle.whole.specs.Cases.{if}
 use Rattle.table.proofs.Look.{split, eqN_true, eqN_refl, first_hit, first_out}
 use Rattle.table.proofs.Store.{put_other, put_above, put_same}
-use Rattle.table.specs.Table.{node_at, put_at, eq_node, first_node, intern_answer, intern_words}
+use Rattle.table.specs.Table.{Answer, count_of, made, halted, node_at, put_at, eq_node, first_node, intern_answer, intern_words}
 use Rattle.table.specs.declared.Node.{Node}
-use Rattle.table.specs.declared.Made.{Made}
+use Rattle.table.specs.declared.Stop.TheVariants.{Full}
 use Rattle.table_unique.specs.Unique.{Chained, NodeEntered}
 use Rattle.theory.specs.Diagram.{Tree}
 use Rattle.theory.specs.Computation.{make, done, stopped, run, member}
@@ -27,7 +27,7 @@ use Rattle.rule_node.proofs.Trees.{trees_length, trees_same, tree_at_is, inj, we
 use Rattle.rule_node.proofs.Outcomes.{grew_like, grew_ret}
 
 -- a tree that is there is not made again
-pub grew_there : {cap : ℕ} {l : List ℤ} {w : List ℕ} {n : ℕ} → Bare cap l w n → (h : ℕ) → h < n → Grew cap l w n (make (tree_at l n h)) l w (record { stop = 0; at = h; count = n })
+pub grew_there : {cap : ℕ} {l : List ℤ} {w : List ℕ} {n : ℕ} → Bare cap l w n → (h : ℕ) → h < n → Grew cap l w n (make (tree_at l n h)) l w (made h n)
 unfolding run make
 grew_there {cap} {l} {n = n} A h q = grew_like (sym (ap (λ (b : Bool). if b (done (tree_at l n h) (trees l n))
     (if (ltb (length (trees l n)) cap) (done (tree_at l n h) (trees l n ++ (tree_at l n h ∷ []))) (stopped 12)))
@@ -43,7 +43,7 @@ module _ {cap : ℕ} {l : List ℤ} {w : List ℕ} {n : ℕ} (A : Bare cap l w n
   found : (i : ℕ) → i < n → node_at l i ≡ x → tree_at l n i ≡ tree
   found i h e = tree_at_is A.good i h ∙ ap (λ (z : Node). tree_of z (trees l n)) e
 
-  ran_old : {w' : List ℕ} → Chained cap l w' n → Frame w' → (i : ℕ) → i < n → node_at l i ≡ x → Grew cap l w n (make tree) l w' (record { stop = 0; at = i; count = n })
+  ran_old : {w' : List ℕ} → Chained cap l w' n → Frame w' → (i : ℕ) → i < n → node_at l i ≡ x → Grew cap l w n (make tree) l w' (made i n)
   unfolding run out_of make
   ran_old C F i h e = record {
     ran = ap (λ (z : Tree). done z (trees l n)) (found i h e) ∙ sym (ap (λ (b : Bool). if b (done tree (trees l n))
@@ -64,7 +64,7 @@ module _ {cap : ℕ} {l : List ℤ} {w : List ℕ} {n : ℕ} (A : Bare cap l w n
     not_there : member tree (trees l n) ≡ false
     not_there = member_out blank tree (trees l n) (λ i h. apart i (let q = trees_length l n in omega arith))
 
-    ran_full : {w' : List ℕ} → Chained cap l w' n → Frame w' → cap ≤ n → Grew cap l w n (make tree) l w' (record { stop = 12; at = 0; count = n })
+    ran_full : {w' : List ℕ} → Chained cap l w' n → Frame w' → cap ≤ n → Grew cap l w n (make tree) l w' (halted Full n)
     unfolding run out_of make
     ran_full C F h = record {
       ran = sym (rw (not_there, le-ltb (length (trees l n)) cap (let q = trees_length l n in omega arith)));
@@ -114,7 +114,7 @@ module _ {cap : ℕ} {l : List ℤ} {w : List ℕ} {n : ℕ} (A : Bare cap l w n
             (split n i (omega arith));
       }
 
-      ran_new : {w' : List ℕ} → Chained cap l' w' (n + 1) → Frame w' → Grew cap l w n (make tree) l' w' (record { stop = 0; at = n; count = n + 1 })
+      ran_new : {w' : List ℕ} → Chained cap l' w' (n + 1) → Frame w' → Grew cap l w n (make tree) l' w' (made n (n + 1))
       unfolding run out_of make
       ran_new C F = record {
         ran = ap₂ done new_at trees_new ∙ sym (rw (not_there, lt-ltb (length (trees l n)) cap (let q = trees_length l n in omega arith)));
@@ -133,15 +133,15 @@ module _ {cap : ℕ} {l : List ℤ} {w : List ℕ} {n : ℕ} (A : Bare cap l w n
       let b = ap (λ (z : Node). eq_node z x) s ∙ eqN_refl x in
       let z : ◌≡◌ {A = ℕ} 0 1 = cc in omega arith
 
-  interned : (w' : List ℕ) → Chained cap (intern_words cap l n x) w' (intern_answer cap l n x).count → Frame w' → Grew cap l w n (make tree) (intern_words cap l n x) w' (intern_answer cap l n x)
+  interned : (w' : List ℕ) → Chained cap (intern_words cap l n x) w' (count_of (intern_answer cap l n x)) → Frame w' → Grew cap l w n (make tree) (intern_words cap l n x) w' (intern_answer cap l n x)
   unfolding intern_answer intern_words first_node
   interned w' C F = go (ltb (first_node l x n) n) refl (ltb n cap) refl C
     where
       go : (b : Bool) → ltb (first_node l x n) n ≡ b → (d : Bool) → ltb n cap ≡ d → Chained cap (cond b l (cond d (put_at l n x) l)) w'
-          (cond {A = Made} b (record { stop = 0; at = first_node l x n; count = n })
-          (cond {A = Made} d (record { stop = 0; at = n; count = n + 1 }) (record { stop = 12; at = 0; count = n }))).count → Grew cap l w n (make tree)
-          (cond b l (cond d (put_at l n x) l)) w' (cond {A = Made} b (record { stop = 0; at = first_node l x n; count = n })
-          (cond {A = Made} d (record { stop = 0; at = n; count = n + 1 }) (record { stop = 12; at = 0; count = n })))
+          (count_of (cond {A = Answer} b (made (first_node l x n) n)
+          (cond {A = Answer} d (made n (n + 1)) (halted Full n)))) → Grew cap l w n (make tree)
+          (cond b l (cond d (put_at l n x) l)) w' (cond {A = Answer} b (made (first_node l x n) n)
+          (cond {A = Answer} d (made n (n + 1)) (halted Full n)))
       go true e d ed C =
           let q = ltb-true (first_node l x n) n e in
           ran_old C F (first_node l x n) q (eqN_true (node_at l (first_node l x n)) x (first_hit (λ i. eq_node (node_at l i) x) n q))
@@ -149,8 +149,8 @@ module _ {cap : ℕ} {l : List ℤ} {w : List ℕ} {n : ℕ} (A : Bare cap l w n
       go false e false ed C = ran_full (λ i h s. out e i h s) C F (ltb-false n cap ed)
 
   -- with the answer and the words that the code has
-  pub interned_as : {r : Made} {l' : List ℤ} {w' : List ℕ} → NodeEntered cap l w n x l' w' r → Grew cap l w n (make tree) l' w' r
+  pub interned_as : {r : Answer} {l' : List ℤ} {w' : List ℕ} → NodeEntered cap l w n x l' w' r → Grew cap l w n (make tree) l' w' r
   interned_as {r} {l'} {w'} E =
       subst (λ (m : List ℤ). Grew cap l w n (make tree) m w' r) (sym E.nodes)
-      (subst (λ (r : Made). Grew cap l w n (make tree) (intern_words cap l n x) w' r) (sym E.answer)
-      (interned w' (subst (λ (m : List ℤ). Chained cap m w' (intern_answer cap l n x).count) E.nodes (subst (λ (r : Made). Chained cap l' w' r.count) E.answer E.chained)) E.beyond))
+      (subst (λ (r : Answer). Grew cap l w n (make tree) (intern_words cap l n x) w' r) (sym E.answer)
+      (interned w' (subst (λ (m : List ℤ). Chained cap m w' (count_of (intern_answer cap l n x))) E.nodes (subst (λ (r : Answer). Chained cap l' w' (count_of r)) E.answer E.chained)) E.beyond))

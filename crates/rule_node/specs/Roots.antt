@@ -3,6 +3,8 @@ use Rattle.std.specs.Prelude.{Bool, false, ◌&&◌, List, ◌∷◌, ◌≡◌,
 use Prim.Native.Nat.{ℕ, ◌+◌, ◌*◌, ◌≤◌, Ordering}
 use Rattle.whole.specs.Cases.{if}
 use Rattle.whole.specs.Linears.{quot_list, divisor_list}
+use Rattle.std.specs.declared.cmp.Ordering.{Ordering as Compared}
+use Rattle.std.specs.declared.cmp.Ordering.TheVariants.{Less, Equal, Greater}
 unfoldable pub use Rattle.whole.specs.Linears.{ord_num}
 use Rattle.table.specs.Table.{node_words, node_at, eq_ℤ, is_leaf}
 use Rattle.table.specs.declared.Node.{Node}
@@ -18,6 +20,12 @@ use Rattle.rule_node.specs.Codes.{choose_later_code}
 
 unfoldable pub order_of : Node → Node → Ordering
 order_of x y = then (cmp_ℤ x.kind y.kind) (cmp_list x.n y.n)
+
+-- an order, as the code has it
+abbrev pub ordering : Ordering → Compared
+ordering Ordering.lt = Less
+ordering Ordering.eq = Equal
+ordering Ordering.gt = Greater
 
 -- both are linear tests, and y is parallel to x
 unfoldable pub parallel_of : Node → Node → Bool

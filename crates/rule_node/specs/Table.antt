@@ -2,8 +2,7 @@
 use Rattle.std.specs.Prelude.{◌≡◌, List, ℕ, ◌+◌, ◌*◌, ◌≤◌, ◌<◌, eqb, ℤ, get_or}
 use Rattle.whole.specs.Cases.{if}
 use Rattle.table_cache.specs.Cache.{CacheEntry}
-use Rattle.table.specs.Table.{node_at}
-use Rattle.table.specs.declared.Made.{Made}
+use Rattle.table.specs.Table.{Answer, stop_of, at_of, count_of, node_at}
 use Rattle.table_unique.specs.Unique.{Chained}
 use Rattle.theory.specs.Diagram.{Tree}
 use Rattle.theory.specs.Computation.{Comp, Out, done, stopped, run}
@@ -40,22 +39,22 @@ pub record Table (rule : EntryRule) (cap : ℕ) (l : List ℤ) (w : List ℕ) (n
 
 -- ---- what an operation on the table of n nodes did, at the words l', w' and the answer r: the computation m
 
-unfoldable pub out_of : Made → List Tree → Out Tree
-out_of r X = if (eqb r.stop 0) (done (get_or X r.at blank) X) (stopped r.stop)
+unfoldable pub out_of : Answer → List Tree → Out Tree
+out_of r X = if (eqb (stop_of r) 0) (done (get_or X (at_of r) blank) X) (stopped (stop_of r))
 
-pub record RuleRan (rule : EntryRule) (cap : ℕ) (l : List ℤ) (w : List ℕ) (n : ℕ) (m : Comp Tree) (l' : List ℤ) (w' : List ℕ) (r : Made) : Type 0 where
-  pub ran : out_of r (trees l' r.count) ≡ run cap m (trees l n)
-  pub table : Table rule cap l' w' r.count
-  pub within : r.stop ≡ 0 → r.at < r.count
-  pub more : n ≤ r.count
+pub record RuleRan (rule : EntryRule) (cap : ℕ) (l : List ℤ) (w : List ℕ) (n : ℕ) (m : Comp Tree) (l' : List ℤ) (w' : List ℕ) (r : Answer) : Type 0 where
+  pub ran : out_of r (trees l' (count_of r)) ≡ run cap m (trees l n)
+  pub table : Table rule cap l' w' (count_of r)
+  pub within : stop_of r ≡ 0 → at_of r < count_of r
+  pub more : n ≤ count_of r
   pub kept : (i : ℕ) → i < n → node_at l' i ≡ node_at l i
 
 -- the same of an operation that leaves the cache's words alone, whatever they mean, and all nodes behind those of the table
-pub record Grew (cap : ℕ) (l : List ℤ) (w : List ℕ) (n : ℕ) (m : Comp Tree) (l' : List ℤ) (w' : List ℕ) (r : Made) : Type 0 where
-  pub ran : out_of r (trees l' r.count) ≡ run cap m (trees l n)
-  pub bare : Bare cap l' w' r.count
-  pub within : r.stop ≡ 0 → r.at < r.count
-  pub more : n ≤ r.count
+pub record Grew (cap : ℕ) (l : List ℤ) (w : List ℕ) (n : ℕ) (m : Comp Tree) (l' : List ℤ) (w' : List ℕ) (r : Answer) : Type 0 where
+  pub ran : out_of r (trees l' (count_of r)) ≡ run cap m (trees l n)
+  pub bare : Bare cap l' w' (count_of r)
+  pub within : stop_of r ≡ 0 → at_of r < count_of r
+  pub more : n ≤ count_of r
   pub kept : (i : ℕ) → i < n → node_at l' i ≡ node_at l i
-  pub rest : (i : ℕ) → r.count ≤ i → node_at l' i ≡ node_at l i
+  pub rest : (i : ℕ) → count_of r ≤ i → node_at l' i ≡ node_at l i
   pub beyond : (j : ℕ) → cap * 2 ≤ j → get_or w' j 0 ≡ get_or w j 0

@@ -36,8 +36,3 @@ pub const CHOOSE_COMMAND: usize = 13;
 pub const CONDITION: i64 = 1;
 
 pub const LINEAR: i64 = 2;
-
-// How two tests are ordered, as whole_linears::compare_two says it of two numbers.
-pub const BEFORE: usize = 0;
-
-pub const AFTER: usize = 2;

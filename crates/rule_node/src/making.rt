@@ -8,11 +8,17 @@ ghost use Rattle.rule_node.specs.Nodes.{linear_held, test_held, tree_of, trees, 
 ghost use Rattle.rule_node.specs.Table.{Bare, Grew};
 
 use super::narrowing::narrowed;
-use table::{Made, NONE, Node};
+use table::{Made, NONE, Node, Stop, Stopped};
 use whole::NUMBERS;
 
 // Looks a node up or makes it.
-pub fn intern(nodes: &mut [i64], work: &mut [u32], cap: usize, count: usize, x: Node) -> Made
+pub fn intern(
+    nodes: &mut [i64],
+    work: &mut [u32],
+    cap: usize,
+    count: usize,
+    x: Node,
+) -> Result<Made, Stopped>
     requires { Bare cap nodes.old work.old count × Valid x count }
     ensures { Grew cap nodes.old work.old count (make (tree_of x (trees nodes.old count))) nodes.new work.new result }
 {
@@ -28,24 +34,18 @@ pub fn join_test(
     t: Node,
     h: usize,
     l: usize,
-) -> Made
+) -> Result<Made, Stopped>
     requires { Bare cap nodes.old work.old count × Proper t × (h < count) × (l < count) }
     ensures { Grew cap nodes.old work.old count (node (test_held t) (tree_at nodes.old count h) (tree_at nodes.old count l)) nodes.new work.new result }
 {
     let k = narrowed(nodes, count, t, l);
     if h == k {
-        return Made {
-            stop: 0,
-            at: h,
-            count,
-        };
+        return Ok(Made { at: h, count });
     }
-    let n = t.n;
     let x = Node {
-        kind: t.kind,
-        n,
         high: h as i64,
         low: k as i64,
+        ..t
     };
     intern(nodes, work, cap, count, x)
 }
@@ -59,7 +59,7 @@ pub fn join(
     t: usize,
     h: usize,
     l: usize,
-) -> Made
+) -> Result<Made, Stopped>
     requires { Bare cap nodes.old work.old count × Root nodes.old count t × (h < count) × (l < count) }
     ensures { Grew cap nodes.old work.old count (node (test_held (node_at nodes.old t)) (tree_at nodes.old count h) (tree_at nodes.old count l)) nodes.new work.new result }
 {
@@ -68,14 +68,18 @@ pub fn join(
 }
 
 // The leaf "none".
-pub fn make_none(nodes: &mut [i64], work: &mut [u32], cap: usize, count: usize) -> Made
+pub fn make_none(
+    nodes: &mut [i64],
+    work: &mut [u32],
+    cap: usize,
+    count: usize,
+) -> Result<Made, Stopped>
     requires { Bare cap nodes.old work.old count }
     ensures { Grew cap nodes.old work.old count (make none_leaf) nodes.new work.new result }
 {
-    let n = [0i64; NUMBERS];
     let x = Node {
         kind: NONE,
-        n,
+        n: [0; NUMBERS],
         high: 0,
         low: 0,
     };
@@ -86,21 +90,25 @@ pub fn make_none(nodes: &mut [i64], work: &mut [u32], cap: usize, count: usize) 
 pub fn within(x: Node) -> bool
     ensures { result ≡ small_linear (linear_held x) }
 {
-    let n = x.n;
-    whole_linears::within(n)
+    whole_linears::within(x.n)
 }
 
 // A leaf without action, its numbers judged first.
-pub fn make_leaf(nodes: &mut [i64], work: &mut [u32], cap: usize, count: usize, s: Node) -> Made
+pub fn make_leaf(
+    nodes: &mut [i64],
+    work: &mut [u32],
+    cap: usize,
+    count: usize,
+    s: Node,
+) -> Result<Made, Stopped>
     requires { Bare cap nodes.old work.old count × Plain s }
     ensures { Grew cap nodes.old work.old count (make_leaf (linear_held s)) nodes.new work.new result }
 {
-    if within(s) {
-        return intern(nodes, work, cap, count, s);
+    if !within(s) {
+        return Err(Stopped {
+            why: Stop::Over,
+            count,
+        });
     }
-    Made {
-        stop: 11,
-        at: 0,
-        count,
-    }
+    intern(nodes, work, cap, count, s)
 }

@@ -40,10 +40,9 @@ pub fn narrowed(nodes: &[i64], count: usize, t: Node, l: usize) -> usize
     let mut at = l;
     loop {
         let x = table::get(nodes, at);
-        if parallel(t, x) {} else {
+        if !parallel(t, x) {
             return at;
         }
-        let low = x.low;
-        at = index(low);
+        at = index(x.low);
     }
 }

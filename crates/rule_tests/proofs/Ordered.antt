@@ -1,6 +1,6 @@
 -- The order of the words is the order of the tests.
 use mathlib.Core.Path.{◌≡◌, refl, sym, ap, ap₂, ◌∙◌, subst}
-use mathlib.Core.Bool.{Bool, true, false}
+use mathlib.Core.Bool.{Bool, true, false, cond}
 use Prim.Native.Nat.{ℕ, zero, suc, ◌+◌, ◌*◌, ◌-◌, ◌≤◌, ◌<◌, ◌^◌, compare, Ordering}
 use native.Mathlib.Omega.{arith}
 use borrow.Author.Tests.{ltb-true, ltb-false}
@@ -10,11 +10,11 @@ use lib.Dec.{T, ltb, compare_is_eq}
 use lib.IntN.{ℤ, pos, nat_abs}
 use lib.ListN.{length, get_or, take, drop, length-drop}
 use lib.Seq.{length-take-le, take_all, get_or-take, get_or-drop}
-use lib.Signed.{pos-nat_abs, mag}
+use lib.Signed.{pos-nat_abs, mag, lt_z}
 use mir.Syntax.{w64}
 use mir.Val.{of_z, to_z}
 use Rattle.whole.specs.Linears.{numbers, ord_num}
-use Rattle.whole.proofs.Comparing.{lt_cmp, gt_cmp, eq_cmp, num_eq, then_here, then_on, cmp_back, order_differs, order_goes, order_ends}
+use Rattle.whole.proofs.Comparing.{cmp_lt, cmp_gt, cmp_same, lt_cmp, gt_cmp, eq_cmp, num_eq, then_here, then_on, cmp_back, order_differs, order_goes, order_ends}
 use Rattle.table.proofs.Words.{R, back, same_bits}
 use Rattle.table.proofs.Look.{eq_ℤ_true}
 use Rattle.table.specs.Table.{node_words, node_at, eq_ℤ}
@@ -23,7 +23,10 @@ use Rattle.theory.specs.Widths.{levels_most, conditions_most}
 use Rattle.theory.proofs.laws.Comps.{cmp_ℤ_eq, cmp_ℤ_refl}
 use Rattle.theory.specs.Diagram.{Linear, Test, now, later, linear, then, cmp_ℤ, cmp_list, cmp_linear, cmp}
 use Rattle.rule_node.specs.Nodes.{linear_held, first_of, condition_of, test_held, Tested}
-use Rattle.rule_node.specs.Roots.{order_of}
+use Rattle.rule_node.specs.Roots.{order_of, ordering}
+use Rattle.std.specs.declared.cmp.Ordering.{Ordering as Compared}
+use Rattle.std.specs.declared.cmp.Ordering.TheVariants.{Less, Equal, Greater}
+use Rattle.std.specs.Ordering.{ordering_index, int_cmp}
 use Rattle.rule_node.proofs.Trees.{test_con, test_lin, later_is, now_is, by_word}
 
 then_idr : (o : Ordering) → then o Ordering.eq ≡ o
@@ -255,3 +258,34 @@ module _ (x y : Node) (vx : Tested x) (vy : Tested y) where
       go false false p q =
           (λ i. then (cmp_ℤ (vx.kind p i) (vy.kind q i)) (cmp_list x.n y.n))
           ∙ (linear_order x y vx.long vy.long ∙ sym (ap₂ cmp (test_lin x p) (test_lin y q)))
+
+-- ---- an order, as the code has it
+
+module _ (a b : ℤ) where
+  told : (p q : Bool) → lt_z a b ≡ p → lt_z b a ≡ q → ordering_index (cond p Less (cond q Greater Equal)) ≡ ord_num (cmp_ℤ a b)
+  unfolding ord_num
+  told true q e d = ap ord_num (sym (cmp_lt a b e))
+  told false true e d = ap ord_num (sym (cmp_gt a b d))
+  told false false e d = ap ord_num (sym (cmp_same a b e d))
+
+  -- of two numbers
+  pub compared : {r : Compared} → r ≡ int_cmp a b → ordering_index r ≡ ord_num (cmp_ℤ a b)
+  compared e = ap ordering_index e ∙ told (lt_z a b) (lt_z b a) refl refl
+
+pub index_of : {r : Compared} (o : Ordering) → r ≡ ordering o → ordering_index r ≡ ord_num o
+unfolding ord_num
+index_of Ordering.lt e = ap ordering_index e
+index_of Ordering.eq e = ap ordering_index e
+index_of Ordering.gt e = ap ordering_index e
+
+pub ordered : (r : Compared) (o : Ordering) → ordering_index r ≡ ord_num o → r ≡ ordering o
+unfolding ord_num
+ordered Less Ordering.lt e = refl
+ordered Less Ordering.eq e = absurd (omega arith)
+ordered Less Ordering.gt e = absurd (omega arith)
+ordered Equal Ordering.lt e = absurd (omega arith)
+ordered Equal Ordering.eq e = refl
+ordered Equal Ordering.gt e = absurd (omega arith)
+ordered Greater Ordering.lt e = absurd (omega arith)
+ordered Greater Ordering.eq e = absurd (omega arith)
+ordered Greater Ordering.gt e = refl

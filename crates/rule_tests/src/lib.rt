@@ -8,13 +8,14 @@ ghost use Rattle.theory.specs.Widths.{conditions_most};
 ghost use Rattle.theory.specs.Diagram.{then, cmp_ℤ, cmp_list};
 ghost use Rattle.rule_node.specs.Codes.{choose_later_code};
 ghost use Rattle.rule_node.specs.Nodes.{Nums, At};
-ghost use Rattle.rule_node.specs.Roots.{ord_num, order_of, condition_node, later_node, named_node, test_node, Readable, down_of};
+ghost use Rattle.rule_node.specs.Roots.{ordering, order_of, condition_node, later_node, named_node, test_node, Readable, down_of};
 
-use rule_node::codes::{AFTER, BEFORE, CHOOSE_LATER, CONDITION, LINEAR};
+use rule_node::codes::{CHOOSE_LATER, CONDITION, LINEAR};
 use rule_node::{Down, index};
+use std::cmp::Ordering;
 use table::{HIGH, LOW, NODE_WORDS, Node};
 use whole::{COEFFICIENTS, NUMBERS};
-use whole_linears::{compare_two, divided};
+use whole_linears::divided;
 
 // What lies below the node at i: its kind and its branches are read, no numbers.
 pub fn below_at(nodes: &[i64], i: usize) -> Down
@@ -22,93 +23,86 @@ pub fn below_at(nodes: &[i64], i: usize) -> Down
     ensures { result ≡ down_of (node_at nodes.now i) }
 {
     let at = i * NODE_WORDS;
-    let kind = nodes[at];
-    let h = nodes[at + HIGH];
-    let l = nodes[at + LOW];
-    let high = index(h);
-    let low = index(l);
-    let ends = table::is_leaf(kind);
-    Down { ends, high, low }
+    Down {
+        ends: table::is_leaf(nodes[at]),
+        high: index(nodes[at + HIGH]),
+        low: index(nodes[at + LOW]),
+    }
 }
 
 // The numbers of two tests where they stand, from i and from j on: coefficient by coefficient, then the constant.
-fn order_numbers(a: &[i64], i: usize, b: &[i64], j: usize) -> usize
+fn order_numbers(a: &[i64], i: usize, b: &[i64], j: usize) -> Ordering
     requires { (i + numbers ≤ length a.now) × (j + numbers ≤ length b.now) }
-    ensures { result ≡ ord_num (cmp_list (take numbers (drop i a.now)) (take numbers (drop j b.now))) }
+    ensures { result ≡ ordering (cmp_list (take numbers (drop i a.now)) (take numbers (drop j b.now))) }
 {
-    let mut k: usize = 0;
-    while k < COEFFICIENTS {
+    for k in 0..COEFFICIENTS {
         let p = a[i + k];
         let q = b[j + k];
         if p != q {
-            return compare_two(p, q);
+            return p.cmp(&q);
         }
-        k += 1;
     }
     let c = a[i + COEFFICIENTS];
     let d = b[j + COEFFICIENTS];
-    compare_two(c, d)
+    c.cmp(&d)
 }
 
 // The order of two tests, a case each: of kinds x and y, their numbers in a from i on and in b from j on. All numbers are
 // compared in one place, the last, so that this stays small: those of linear tests, and of what no case before tells apart,
 // as a condition and itself.
-pub fn order_words(x: i64, a: &[i64], i: usize, y: i64, b: &[i64], j: usize) -> usize
+pub fn order_words(x: i64, a: &[i64], i: usize, y: i64, b: &[i64], j: usize) -> Ordering
     requires { (i + numbers ≤ length a.now) × (j + numbers ≤ length b.now) }
-    ensures { result ≡ ord_num (then (cmp_ℤ x y) (cmp_list (take numbers (drop i a.now)) (take numbers (drop j b.now)))) }
+    ensures { result ≡ ordering (then (cmp_ℤ x y) (cmp_list (take numbers (drop i a.now)) (take numbers (drop j b.now)))) }
 {
     // A condition comes before a linear test.
-    if x == LINEAR {
-        if y == CONDITION {
-            return AFTER;
-        }
+    if x == LINEAR && y == CONDITION {
+        return Ordering::Greater;
     }
     if x == CONDITION {
         if y == LINEAR {
-            return BEFORE;
+            return Ordering::Less;
         }
         // Two conditions go by number.
         if y == CONDITION {
             let m = a[i];
             let n = b[j];
             if m != n {
-                return compare_two(m, n);
+                return m.cmp(&n);
             }
         }
     }
     // A leaf is no test: it keeps the place that its words give it, and no rule goes by it.
     if x != y {
-        return compare_two(x, y);
+        return x.cmp(&y);
     }
     order_numbers(a, i, b, j)
 }
 
 // The order of a test of kind x, its numbers in a from i on, and the one at g.
-pub fn order_to(x: i64, a: &[i64], i: usize, nodes: &[i64], g: usize) -> usize
+pub fn order_to(x: i64, a: &[i64], i: usize, nodes: &[i64], g: usize) -> Ordering
     requires { (i + numbers ≤ length a.now) × At nodes.now g }
-    ensures { result ≡ ord_num (then (cmp_ℤ x (node_at nodes.now g).kind) (cmp_list (take numbers (drop i a.now)) (node_at nodes.now g).n)) }
+    ensures { result ≡ ordering (then (cmp_ℤ x (node_at nodes.now g).kind) (cmp_list (take numbers (drop i a.now)) (node_at nodes.now g).n)) }
 {
     let j = g * NODE_WORDS;
     order_words(x, a, i, nodes[j], nodes, j + 1)
 }
 
 // The order of the tests at f and g.
-pub fn order_at(nodes: &[i64], f: usize, g: usize) -> usize
+pub fn order_at(nodes: &[i64], f: usize, g: usize) -> Ordering
     requires { At nodes.now f × At nodes.now g }
-    ensures { result ≡ ord_num (order_of (node_at nodes.now f) (node_at nodes.now g)) }
+    ensures { result ≡ ordering (order_of (node_at nodes.now f) (node_at nodes.now g)) }
 {
     let i = f * NODE_WORDS;
     order_to(nodes[i], nodes, i + 1, nodes, g)
 }
 
 // The order of the test at f and another.
-pub fn order_from(nodes: &[i64], f: usize, z: Node) -> usize
+pub fn order_from(nodes: &[i64], f: usize, z: Node) -> Ordering
     requires { At nodes.now f }
-    ensures { result ≡ ord_num (order_of (node_at nodes.now f) z) }
+    ensures { result ≡ ordering (order_of (node_at nodes.now f) z) }
 {
-    let n = z.n;
     let i = f * NODE_WORDS;
-    order_words(nodes[i], nodes, i + 1, z.kind, &n, 0)
+    order_words(nodes[i], nodes, i + 1, z.kind, &z.n, 0)
 }
 
 // Condition k as a test: "1 to n for a condition now, 5 to 4+n for the next step's".
@@ -116,9 +110,8 @@ pub fn condition(k: usize) -> Node
     requires { k ≤ conditions_most + conditions_most }
     ensures { result ≡ condition_node k }
 {
-    let number = k as i64;
-    let mut n = [0i64; NUMBERS];
-    n[0] = number;
+    let mut n = [0; NUMBERS];
+    n[0] = k as i64;
     Node {
         kind: CONDITION,
         n,
@@ -141,11 +134,9 @@ pub fn named(x: Node) -> Node
     ensures { result ≡ named_node x }
 {
     if table::is_leaf(x.kind) {
-        let l = x.n;
-        let n = divided(l);
         return Node {
             kind: LINEAR,
-            n,
+            n: divided(x.n),
             high: 0,
             low: 0,
         };
@@ -169,12 +160,5 @@ pub fn stands_at(nodes: &[i64], op: usize, p: usize) -> bool
     requires { Readable nodes.now op p }
     ensures { result ≡ true → (op ≡ choose_later_code → ⊥) × (is_leaf (node_at nodes.now p).kind ≡ false) }
 {
-    if op == CHOOSE_LATER {
-        return false;
-    }
-    let kind = nodes[p * NODE_WORDS];
-    if table::is_leaf(kind) {
-        return false;
-    }
-    true
+    op != CHOOSE_LATER && !table::is_leaf(nodes[p * NODE_WORDS])
 }

@@ -6,9 +6,9 @@ use native.Mathlib.Omega.{arith}
 use lib.IntN.{ℤ}
 use mir.Syntax.{w64}
 use mir.Val.{SFits}
+use Rattle.table.specs.Table.{Answer}
 use Rattle.whole.specs.Within.{Small}
 use Rattle.whole.proofs.Signed.{R, back}
-use Rattle.table.specs.declared.Made.{Made}
 use Rattle.theory.specs.Widths.{weights_most, actions_most}
 use Rattle.theory.specs.Rules.{scale, shift, complement, number}
 use Rattle.rule_node.specs.Nodes.{tree_at}
@@ -105,7 +105,7 @@ module _ (c : ℤ) (fc : SFits w64 c) {a b : ℕ} (ea : a ≡ low_of (R c)) (eb 
         picks = λ e. absurd (omega arith);
       }
 
-  module _ {cap : ℕ} {l l₁ : List ℤ} {w w₁ : List ℕ} {n : ℕ} (f : ℕ) {r : Made} where
+  module _ {cap : ℕ} {l l₁ : List ℤ} {w w₁ : List ℕ} {n : ℕ} (f : ℕ) {r : Answer} where
     pub scale_ran : RuleRan rule_of cap l w n (rule_of l n 3 f 0 a b) l₁ w₁ r → RuleRan rule_of cap l w n (scale c (tree_at l n f)) l₁ w₁ r
     scale_ran S = ran_as (rule_scale l n f 0 a b ∙ ap (λ (z : ℤ). scale z (tree_at l n f)) number_is) S
 
@@ -114,7 +114,7 @@ module _ (c : ℤ) (fc : SFits w64 c) {a b : ℕ} (ea : a ≡ low_of (R c)) (eb 
 
 -- ---- what was run
 
-module _ {cap : ℕ} {l l₁ : List ℤ} {w w₁ : List ℕ} {n : ℕ} (f p : ℕ) {r : Made} where
+module _ {cap : ℕ} {l l₁ : List ℤ} {w w₁ : List ℕ} {n : ℕ} (f p : ℕ) {r : Answer} where
   pub complement_ran : RuleRan rule_of cap l w n (rule_of l n 5 f 0 p 0) l₁ w₁ r → RuleRan rule_of cap l w n (complement p (tree_at l n f)) l₁ w₁ r
   complement_ran S = ran_as (rule_complement l n f 0 p 0) S
 

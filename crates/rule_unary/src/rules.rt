@@ -11,10 +11,11 @@ ghost use Rattle.rule_unary.specs.Picks.{Picks};
 
 use rule_node::codes::{COMPLEMENT, NUMBER, SCALE, SHIFT};
 use rule_node::making::join;
+use rule_unary_node::Way;
 use rule_unary_node::halves::{high_half, low_half};
 use rule_unary_node::leaf::at_leaf;
 use rule_unary_node::ways::way_at;
-use table::Made;
+use table::{Made, Stopped};
 use table_cache::{keep, look};
 
 // The rule op, 3 to 8, at the diagram f with the numbers p and q. Only indexes live over the calls.
@@ -27,39 +28,24 @@ pub fn over(
     f: usize,
     p: usize,
     q: usize,
-) -> Made
+) -> Result<Made, Stopped>
     requires { Table rule_of cap nodes.old work.old count × Acts op p q × (f < count) }
     ensures { RuleRan rule_of cap nodes.old work.old count (rule_of nodes.old count op f 0 p q) nodes.new work.new result }
 {
-    let s = way_at(nodes, op, f, p);
-    if s.ends {
-        return at_leaf(nodes, work, cap, count, op, f, p, q);
+    match way_at(nodes, op, f, p) {
+        Way::End => at_leaf(nodes, work, cap, count, op, f, p, q),
+        Way::Pick(i) => over(nodes, work, cap, count, op, i, p, q),
+        Way::Both(high, low) => {
+            if let Some(at) = look(work, cap, op, f, 0, p, q) {
+                return Ok(Made { at, count });
+            }
+            let h = over(nodes, work, cap, count, op, high, p, q)?;
+            let l = over(nodes, work, cap, h.count, op, low, p, q)?;
+            let r = join(nodes, work, cap, l.count, f, h.at, l.at)?;
+            keep(work, cap, op, f, 0, p, q, r.at);
+            Ok(r)
+        }
     }
-    if s.picks {
-        return over(nodes, work, cap, count, op, s.high, p, q);
-    }
-    let c = look(work, cap, op, f, 0, p, q);
-    if c != 0 {
-        return Made {
-            stop: 0,
-            at: c - 1,
-            count,
-        };
-    }
-    let h = over(nodes, work, cap, count, op, s.high, p, q);
-    if h.stop != 0 {
-        return h;
-    }
-    let l = over(nodes, work, cap, h.count, op, s.low, p, q);
-    if l.stop != 0 {
-        return l;
-    }
-    let r = join(nodes, work, cap, l.count, f, h.at, l.at);
-    if r.stop != 0 {
-        return r;
-    }
-    keep(work, cap, op, f, 0, p, q, r.at);
-    r
 }
 
 // A side of the diagram f at the next step's condition p: 7 yes, 8 no.
@@ -71,7 +57,7 @@ pub fn side(
     op: usize,
     f: usize,
     p: usize,
-) -> Made
+) -> Result<Made, Stopped>
     requires { Table rule_of cap nodes.old work.old count × Picks op p × (f < count) }
     ensures { RuleRan rule_of cap nodes.old work.old count (rule_of nodes.old count op f 0 p 0) nodes.new work.new result }
 {
@@ -86,7 +72,7 @@ pub fn scale(
     count: usize,
     f: usize,
     c: i64,
-) -> Made
+) -> Result<Made, Stopped>
     requires { Table rule_of cap nodes.old work.old count × (f < count) }
     ensures { RuleRan rule_of cap nodes.old work.old count (T.scale c (tree_at nodes.old count f)) nodes.new work.new result }
 {
@@ -101,7 +87,7 @@ pub fn shift(
     count: usize,
     f: usize,
     c: i64,
-) -> Made
+) -> Result<Made, Stopped>
     requires { Table rule_of cap nodes.old work.old count × (f < count) × Small c }
     ensures { RuleRan rule_of cap nodes.old work.old count (T.shift c (tree_at nodes.old count f)) nodes.new work.new result }
 {
@@ -116,7 +102,7 @@ pub fn complement(
     count: usize,
     f: usize,
     weights: usize,
-) -> Made
+) -> Result<Made, Stopped>
     requires { Table rule_of cap nodes.old work.old count × (f < count) × (weights ≤ weights_most) }
     ensures { RuleRan rule_of cap nodes.old work.old count (T.complement weights (tree_at nodes.old count f)) nodes.new work.new result }
 {
@@ -131,7 +117,7 @@ pub fn number(
     count: usize,
     f: usize,
     action: usize,
-) -> Made
+) -> Result<Made, Stopped>
     requires { Table rule_of cap nodes.old work.old count × (f < count) × (action ≤ actions_most) }
     ensures { RuleRan rule_of cap nodes.old work.old count (T.number action (tree_at nodes.old count f)) nodes.new work.new result }
 {

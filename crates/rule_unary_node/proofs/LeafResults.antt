@@ -10,9 +10,8 @@ use lib.IntN.{ℤ, pos, nat_abs, ◌+ℤ◌, ◌-ℤ◌}
 use lib.Signed.{mag}
 use Rattle.whole.proofs.Signed.{R, back}
 use Rattle.table.proofs.Leaf.{leaf_as, leaf_not, some_as, some_not}
-use Rattle.table.specs.Table.{node_at, is_leaf, is_none}
+use Rattle.table.specs.Table.{Answer, made, node_at, is_leaf, is_none}
 use Rattle.table.specs.declared.Node.{Node}
-use Rattle.table.specs.declared.Made.{Made}
 use Rattle.theory.specs.Diagram.{Linear, Leaf, some, Tree, leaf, plus_constant}
 use Rattle.theory.specs.Computation.{Comp, ret, make, run}
 use Rattle.theory.specs.Rules.{make_leaf, none_leaf, over, scale, shift, complement, number, leaf_shift, leaf_complement, leaf_number}
@@ -190,10 +189,10 @@ module _ {cap : ℕ} {l : List ℤ} {w : List ℕ} {n : ℕ} (B : Bare cap l w n
   leaf_there = at_leaf B.good f E.below E.ends
 
   -- it stays
-  pub leaf_kept : {b : Bool} → b ≡ stays_by op p q (node_at l f) → b ≡ true → Grew cap l w n (act_of op p q (tree_at l n f)) l w (record { stop = 0; at = f; count = n })
+  pub leaf_kept : {b : Bool} → b ≡ stays_by op p q (node_at l f) → b ≡ true → Grew cap l w n (act_of op p q (tree_at l n f)) l w (made f n)
   leaf_kept eb t = go (stays_is p q (node_at l f) A.from A.to (sym eb ∙ t))
     where
-      go : Stays op p q (node_at l f) → Grew cap l w n (act_of op p q (tree_at l n f)) l w (record { stop = 0; at = f; count = n })
+      go : Stays op p q (node_at l f) → Grew cap l w n (act_of op p q (tree_at l n f)) l w (made f n)
       go (side e) = grew_as (sym (ap (act_of op p q) leaf_there ∙ (e ∙ ap ret (sym leaf_there)))) (grew_ret B f E.below)
       go (none k e) = grew_as (ap make (leaf_there ∙ ap leaf (leaf_none (node_at l f) k)) ∙ sym (ap (act_of op p q) leaf_there ∙ e)) (grew_there B f E.below)
 
@@ -222,7 +221,7 @@ module _ {cap : ℕ} {l : List ℤ} {w : List ℕ} {n : ℕ} (B : Bare cap l w n
     leaf_plain h = subst Plain (sym ey) (acted_plain p q x A.from A.to h)
 
     module _ {b : Bool} (eb : b ≡ stays_by op p q (node_at l f)) (t : b ≡ false) where
-      leaf_judged_by : op ≤ 5 → {l₁ : List ℤ} {w₁ : List ℕ} {r : Made} → Grew cap l w n (make_leaf (linear_held y)) l₁ w₁ r → Grew cap l w n (act_of op p q (tree_at l n f)) l₁ w₁ r
+      leaf_judged_by : op ≤ 5 → {l₁ : List ℤ} {w₁ : List ℕ} {r : Answer} → Grew cap l w n (make_leaf (linear_held y)) l₁ w₁ r → Grew cap l w n (act_of op p q (tree_at l n f)) l₁ w₁ r
       leaf_judged_by h S =
           grew_as (as_act refl)
           (grew_like (acted_run p q x (subst (λ (z : Node). Valid z f) (sym ex) (B.good.valid f E.below)) cap (trees l n) A.from A.to h (ap (stays_by op p q) ex ∙ (sym eb ∙ t)))
@@ -231,13 +230,13 @@ module _ {cap : ℕ} {l : List ℤ} {w : List ℕ} {n : ℕ} (B : Bare cap l w n
       six : 5 < op → op ≡ 6
       six h = let a = acts eb t in omega arith
 
-    pub leaf_judged : {b : Bool} → b ≡ stays_by op p q (node_at l f) → b ≡ false → op ≤ 5 → {l₁ : List ℤ} {w₁ : List ℕ} {r : Made} → Grew cap l w n (make_leaf (linear_held y)) l₁ w₁ r → Grew cap l w n (act_of op p q (tree_at l n f)) l₁ w₁ r
+    pub leaf_judged : {b : Bool} → b ≡ stays_by op p q (node_at l f) → b ≡ false → op ≤ 5 → {l₁ : List ℤ} {w₁ : List ℕ} {r : Answer} → Grew cap l w n (make_leaf (linear_held y)) l₁ w₁ r → Grew cap l w n (act_of op p q (tree_at l n f)) l₁ w₁ r
     leaf_judged eb t h S = leaf_judged_by eb t h S
 
     pub leaf_valid : {b : Bool} → b ≡ stays_by op p q (node_at l f) → b ≡ false → 5 < op → Valid y n
     leaf_valid eb t h = subst (λ (z : Node). Valid z n) (sym (ey ∙ acted_number p q x (six eb t h))) (number_valid p q x n (leaf_nums ex))
 
-    pub leaf_numbered : {b : Bool} → b ≡ stays_by op p q (node_at l f) → b ≡ false → 5 < op → {l₁ : List ℤ} {w₁ : List ℕ} {r : Made} → Grew cap l w n
+    pub leaf_numbered : {b : Bool} → b ≡ stays_by op p q (node_at l f) → b ≡ false → 5 < op → {l₁ : List ℤ} {w₁ : List ℕ} {r : Answer} → Grew cap l w n
         (make (tree_of y (trees l n))) l₁ w₁ r → Grew cap l w n (act_of op p q (tree_at l n f)) l₁ w₁ r
     leaf_numbered eb t h S =
         let e = six eb t h in

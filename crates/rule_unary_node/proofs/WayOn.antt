@@ -25,28 +25,26 @@ use Rattle.rule_node.proofs.Meanings.{test_later, test_proper, test_is}
 use Rattle.rule_tests.proofs.Comparisons.{num_eq}
 use Rattle.rule_node.proofs.TwoOperands.{On}
 use Rattle.rule_unary_node.specs.declared.Way.{Way}
+use Rattle.rule_unary_node.specs.declared.Way.TheVariants.{End, Pick, Both}
 use Rattle.rule_unary_node.specs.Acts.{act_of, Acts, way_by, way_of}
 use Rattle.rule_unary_node.proofs.RulesByNumber.{is_condition, not_condition, act_on, yes_picks, no_picks}
 
-no : {A : Type 0} → true ≡ false → A
-no e = absurd (let z : ◌≡◌ {A = ℕ} 0 1 = cc in omega arith)
-
--- the rule m goes on with one branch
-pub record Picked (l : List ℤ) (n : ℕ) (m : Tree → Comp Tree) (f : ℕ) (w : Way) : Type 0 where
-  pub high : w.high < f
-  pub is : m (tree_at l n f) ≡ m (tree_at l n w.high)
+-- the rule m goes on with the branch i
+pub record Picked (l : List ℤ) (n : ℕ) (m : Tree → Comp Tree) (f i : ℕ) : Type 0 where
+  pub high : i < f
+  pub is : m (tree_at l n f) ≡ m (tree_at l n i)
 
 -- as sides of a rule whose second operand plays no part
-abbrev pub sides_by : Way → ℕ → Sides
-sides_by w f = record { ends = false; root = f; fh = w.high; gh = 0; fl = w.low; gl = 0 }
+abbrev pub sides_by : ℕ → ℕ → ℕ → Sides
+sides_by high low f = record { ends = false; root = f; fh = high; gh = 0; fl = low; gl = 0 }
 
 abbrev pub alone : (Tree → Comp Tree) → Tree → Tree → Comp Tree
 alone m F G = m F
 
-pub record Passes (l : List ℤ) (n : ℕ) (m : Tree → Comp Tree) (f : ℕ) (w : Way) : Type 0 where
-  pub ends : w.ends ≡ true → is_leaf (node_at l f).kind ≡ true
-  pub picks : w.ends ≡ false → w.picks ≡ true → Picked l n m f w
-  pub goes : w.ends ≡ false → w.picks ≡ false → On l n (alone m) node f 0 (sides_by w f)
+abbrev pub Passes : List ℤ → ℕ → (Tree → Comp Tree) → ℕ → Way → Type 0
+Passes l n m f End = is_leaf (node_at l f).kind ≡ true
+Passes l n m f (Pick i) = Picked l n m f i
+Passes l n m f (Both high low) = On l n (alone m) node f 0 (sides_by high low f)
 
 module _ {l : List ℤ} {n : ℕ} (G : Good l n) {op p q : ℕ} (A : Acts op p q) (f : ℕ) (hf : f < n) where
   abbrev x : Node
@@ -92,60 +90,43 @@ module _ {l : List ℤ} {n : ℕ} (G : Good l n) {op p q : ℕ} (A : Acts op p q
   unfolding ord_num
   later_no n k h = not_condition p (test_held x) (λ e. n (o_side h ∙ ap ord_num (order_as h k ∙ e)))
 
-  abbrev way_on : Way
-  way_on = record { ends = d.ends; picks = false; high = d.high; low = d.low }
-
-  abbrev way_yes : Way
-  way_yes = record { ends = d.ends; picks = true; high = d.high; low = d.low }
-
-  abbrev way_no : Way
-  way_no = record { ends = d.ends; picks = true; high = d.low; low = d.low }
-
-  on : (o ≡ 1 → ⊥) → Passes l n m f way_on
+  on : d.ends ≡ false → (o ≡ 1 → ⊥) → On l n (alone m) node f 0 (sides_by d.high d.low f)
   unfolding down_of
-  on t = record {
-    ends = λ e. e;
-    picks = λ e z. no (sym z);
-    goes = λ e z.
-        let a = (G.valid f hf).high_below e in let b = (G.valid f hf).low_below e in
-        record {
-          fh = omega arith;
-          gh = omega arith;
-          fl = omega arith;
-          gl = omega arith;
-          root = hf;
-          high = omega arith;
-          low = omega arith;
-          test = e;
-          is = ap m
-              (at_branch G f hf e) ∙ act_on p q (test_held x) _ _ A.from A.to (later_no t e);
-        };
-  }
+  on e t =
+      let a = (G.valid f hf).high_below e in let b = (G.valid f hf).low_below e in
+      record {
+        fh = omega arith;
+        gh = omega arith;
+        fl = omega arith;
+        gl = omega arith;
+        root = hf;
+        high = omega arith;
+        low = omega arith;
+        test = e;
+        is = ap m (at_branch G f hf e) ∙ act_on p q (test_held x) _ _ A.from A.to (later_no t e);
+      }
 
-  yes_side : o ≡ 1 → op ≡ 7 → Passes l n m f way_yes
+  yes_side : d.ends ≡ false → o ≡ 1 → op ≡ 7 → Picked l n m f d.high
   unfolding down_of
-  yes_side t k = record {
-    ends = λ e. e;
-    picks = λ e z. record { high = (G.valid f hf).high_below e; is = ap m (at_branch G f hf e) ∙ yes_picks p q (test_held x) _ _ (later_yes t e) k };
-    goes = λ e z. no z;
-  }
+  yes_side e t k = record { high = (G.valid f hf).high_below e; is = ap m (at_branch G f hf e) ∙ yes_picks p q (test_held x) _ _ (later_yes t e) k }
 
-  no_side : o ≡ 1 → op ≡ 8 → Passes l n m f way_no
+  no_side : d.ends ≡ false → o ≡ 1 → op ≡ 8 → Picked l n m f d.low
   unfolding down_of
-  no_side t k = record {
-    ends = λ e. e;
-    picks = λ e z. record { high = (G.valid f hf).low_below e; is = ap m (at_branch G f hf e) ∙ no_picks p q (test_held x) _ _ (later_yes t e) k };
-    goes = λ e z. no z;
-  }
+  no_side e t k = record { high = (G.valid f hf).low_below e; is = ap m (at_branch G f hf e) ∙ no_picks p q (test_held x) _ _ (later_yes t e) k }
 
-  all : (b c : Bool) → eqb o 1 ≡ b → eqb op 7 ≡ c → Passes l n m f (if b (if c way_yes way_no) way_on)
-  all true true e k = yes_side (eqb-true o 1 e) (eqb-true op 7 k)
-  all true false e k = no_side (eqb-true o 1 e) (let a = o_one (eqb-true o 1 e) in let b = A.to in let c = eqb-false op 7 k in omega arith)
-  all false c e k = on (eqb-false o 1 e)
+  ends : d.ends ≡ true → is_leaf x.kind ≡ true
+  unfolding down_of
+  ends e = e
+
+  all : (a b c : Bool) → d.ends ≡ a → eqb o 1 ≡ b → eqb op 7 ≡ c → Passes l n m f (if a End (if b (Pick (if c d.high d.low)) (Both d.high d.low)))
+  all true b c e t k = ends e
+  all false true true e t k = yes_side e (eqb-true o 1 t) (eqb-true op 7 k)
+  all false true false e t k = no_side e (eqb-true o 1 t) (let a = o_one (eqb-true o 1 t) in let b = A.to in let c = eqb-false op 7 k in omega arith)
+  all false false c e t k = on e (eqb-false o 1 t)
 
   pub passes : Passes l n m f (way_of op p x)
   unfolding way_of way_by
-  passes = all (eqb o 1) (eqb op 7) refl refl
+  passes = all d.ends (eqb o 1) (eqb op 7) refl refl refl
 
 -- with the way that the code has
 pub passes_as : {l : List ℤ} {n : ℕ} (G : Good l n) {op p q : ℕ} (A : Acts op p q) (f : ℕ) → f < n → {w : Way} → w ≡ way_of op p (node_at l f) → Passes l n (act_of op p q) f w
@@ -153,12 +134,9 @@ passes_as {l} {n} G {op} {p} {q} A f h e = subst (Passes l n (act_of op p q) f) 
 
 -- ---- what the code reads is that way
 
-pub way_as : (d : Down) (op o : ℕ) (b c : Bool) → eqb o 1 ≡ b → eqb op 7 ≡ c → if b
-    (if c (record { ends = d.ends; picks = true; high = d.high; low = d.low }) (record { ends = d.ends; picks = true; high = d.low; low = d.low }))
-    (record { ends = d.ends; picks = false; high = d.high; low = d.low }) ≡ way_by d op o
+pub way_as : (d : Down) (op o : ℕ) (a b c : Bool) → d.ends ≡ a → eqb o 1 ≡ b → eqb op 7 ≡ c → if a End (if b (Pick (if c d.high d.low)) (Both d.high d.low)) ≡ way_by d op o
 unfolding way_by
-way_as d op o b c e₁ e₂ = λ i. if (sym e₁ i) (if (sym e₂ i) (record { ends = d.ends; picks = true; high = d.high; low = d.low })
-    (record { ends = d.ends; picks = true; high = d.low; low = d.low })) (record { ends = d.ends; picks = false; high = d.high; low = d.low })
+way_as d op o a b c e₀ e₁ e₂ = λ i. if (sym e₀ i) End (if (sym e₁ i) (Pick (if (sym e₂ i) d.high d.low)) (Both d.high d.low))
 
 module _ (x : Node) {d : Down} {r : Way} (op p : ℕ) (ed : d ≡ down_of x) where
   pub way_other : r ≡ way_by d op 0 → op < 7 → r ≡ way_of op p x

@@ -1,8 +1,8 @@
 -- An i64 in two halves, and the numbers of a leaf as the code computes them.
-use mathlib.Core.Path.{◌≡◌, refl, sym, ap, ◌∙◌, subst}
-use Prim.Native.Nat.{ℕ, zero, suc, ◌+◌, ◌-◌, ◌*◌, ◌/◌, ◌%◌, ◌^◌, ◌≤◌, ◌<◌}
+use mathlib.Core.Path.{◌≡◌, refl, ap, ◌∙◌}
+use Prim.Native.Nat.{ℕ, ◌+◌, ◌*◌, ◌/◌, ◌%◌, ◌^◌, ◌<◌}
 use native.Mathlib.Omega.{arith}
-use lib.IntN.{ℤ, pos, negsuc, ◌-ℤ◌, +ℤ_idr}
+use lib.IntN.{ℤ}
 use mir.Syntax.{w64}
 use mir.Val.{SFits, to_z, of_z}
 use mir.ValLaws.{to_z-of_z, of_z_fits}
@@ -47,26 +47,3 @@ high_is c f e = ap (λ (n : ℕ). n / 4294967296) (e ∙ ap (of_z w64) (back c f
 pub number_plain : (p q : ℕ) → to_z w64 (q * 4294967296 + p) ≡ from_halves p q
 unfolding from_halves
 number_plain p q = refl
-
-minus : (k : ℕ) → negsuc 0 -ℤ pos k ≡ negsuc k
-minus zero = +ℤ_idr (negsuc 0)
-minus (suc k) = ap (λ (j : ℕ). negsuc (suc j)) (let e : 0 + k ≡ k = omega arith in e)
-
-bits_back : (n : ℕ) → 2 ^ 63 ≤ n → n < 2 ^ 64 → n ≡ 18446744073709551616 - suc (18446744073709551615 - n)
-bits_back n lo hi = omega arith
-
-module _ (n : ℕ) (lo : 9223372036854775808 ≤ n) (hi : n < 2 ^ 64) where
-  abbrev k : ℕ
-  k = 18446744073709551615 - n
-
-  neg_is : negsuc 0 -ℤ to_z w64 k ≡ negsuc k
-  neg_is = ap (λ (z : ℤ). negsuc 0 -ℤ z) (back (pos k) (record { sfits = omega arith })) ∙ minus k
-
-  neg_fits : SFits w64 (negsuc k)
-  neg_fits = record { sfits = omega arith }
-
-  pub number_fits : SFits w64 (negsuc 0 -ℤ to_z w64 k)
-  number_fits = subst (SFits w64) (sym neg_is) neg_fits
-
-  pub number_back : R (negsuc 0 -ℤ to_z w64 k) ≡ to_z w64 n
-  number_back = ap R neg_is ∙ sym (ap (to_z w64) (bits_back n (omega arith) hi))

@@ -15,6 +15,7 @@ use Rattle.rule_node.specs.Roots.{down_of, ord_num, order_of, later_node}
 use Rattle.rule_node.specs.declared.Down.{Down}
 use Rattle.rule_leaves.specs.Leaves.{stays_none, product_node, shift_node, complement_node, number_node}
 use Rattle.rule_unary_node.specs.declared.Way.{Way}
+use Rattle.rule_unary_node.specs.declared.Way.TheVariants.{End, Pick, Both}
 use Rattle.rule_node.specs.Codes.{scale_code, shift_code, complement_code, number_code, yes_side_code, no_side_code}
 
 -- ---- the rules
@@ -63,12 +64,9 @@ stays_by op p q x = if (ltb number_code op) true (if (eqb op number_code) (is_no
 
 -- ---- the way on
 
--- a side picks a branch where the order o of the node's test and its condition is 1: 7 the high one, 8 the low one
+-- nothing at a leaf; a side picks a branch where the order o of the node's test and its condition is 1: 7 the high one, 8 the low one
 unfoldable pub way_by : Down → ℕ → ℕ → Way
-way_by d op o =
-    if (eqb o 1)
-    (if (eqb op yes_side_code) (record { ends = d.ends; picks = true; high = d.high; low = d.low }) (record { ends = d.ends; picks = true; high = d.low; low = d.low }))
-    (record { ends = d.ends; picks = false; high = d.high; low = d.low })
+way_by d op o = if d.ends End (if (eqb o 1) (Pick (if (eqb op yes_side_code) d.high d.low)) (Both d.high d.low))
 
 unfoldable pub way_of : ℕ → ℕ → Node → Way
 way_of op p x = way_by (down_of x) op (if (ltb op 7) 0 (ord_num (order_of x (later_node p))))

@@ -11,26 +11,20 @@ use rule_leaves::changes::{complemented, numbered, shifted};
 use rule_leaves::numbers::{product, stays_none};
 use rule_node::codes::{COMPLEMENT, NUMBER, SCALE, SHIFT};
 use rule_node::making::{intern, make_leaf};
-use table::{Made, Node};
+use table::{Made, Node, Stopped};
 
 // The leaf that the rule op makes of a leaf.
 fn acted(x: Node, op: usize, p: usize, q: usize) -> Node
     requires { Nums x × Acts op p q }
     ensures { result ≡ acted_node op p q x }
 {
-    if op == SCALE {
-        return product(number_of(p, q), x);
+    match op {
+        SCALE => product(number_of(p, q), x),
+        SHIFT => shifted(x, number_of(p, q)),
+        COMPLEMENT => complemented(x, p),
+        NUMBER => numbered(x, p),
+        _ => x,
     }
-    if op == SHIFT {
-        return shifted(x, number_of(p, q));
-    }
-    if op == COMPLEMENT {
-        return complemented(x, p);
-    }
-    if op == NUMBER {
-        return numbered(x, p);
-    }
-    x
 }
 
 // Whether the rule op leaves the leaf f as it is: a side does; "none" is not numbered, and a number times it but 0 is it.
@@ -38,16 +32,12 @@ fn stays(nodes: &[i64], op: usize, f: usize, p: usize, q: usize) -> bool
     requires { Acts op p q × (f * node_words + node_words ≤ length nodes.now) }
     ensures { result ≡ stays_by op p q (node_at nodes.now f) }
 {
-    if op > NUMBER {
-        return true;
+    match op {
+        SCALE => stays_none(nodes, number_of(p, q), f),
+        SHIFT | COMPLEMENT => false,
+        NUMBER => table::none_at(nodes, f),
+        _ => true,
     }
-    if op == SCALE {
-        return stays_none(nodes, number_of(p, q), f);
-    }
-    if op < NUMBER {
-        return false;
-    }
-    table::none_at(nodes, f)
 }
 
 // What the rule op comes to at the leaf f. A number that acts is judged; an action is none.
@@ -60,16 +50,12 @@ pub fn at_leaf(
     f: usize,
     p: usize,
     q: usize,
-) -> Made
+) -> Result<Made, Stopped>
     requires { Bare cap nodes.old work.old count × Acts op p q × AtLeaf nodes.old count f }
     ensures { Grew cap nodes.old work.old count (act_of op p q (tree_at nodes.old count f)) nodes.new work.new result }
 {
     if stays(nodes, op, f, p, q) {
-        return Made {
-            stop: 0,
-            at: f,
-            count,
-        };
+        return Ok(Made { at: f, count });
     }
     let y = acted(table::get(nodes, f), op, p, q);
     if op > COMPLEMENT {

@@ -5,11 +5,10 @@ pub mod halves; // halves.rt: an i64 in two words of the cache
 pub mod leaf; // leaf.rt: what a rule makes of a leaf
 pub mod ways; // ways.rt: what a rule goes on with at a branch
 
-// What a rule goes on with at a node: nothing where it ends, high alone where it picks, else high and low.
+// What a rule goes on with at a node: nothing at a leaf, the branch that it picks, or else high and low.
 #[derive(Clone, Copy)]
-pub struct Way {
-    pub ends: bool,
-    pub picks: bool,
-    pub high: usize,
-    pub low: usize,
+pub enum Way {
+    End,
+    Pick(usize),
+    Both(usize, usize),
 }

@@ -1,5 +1,6 @@
 // What a rule goes on with at a node.
 ghost use Rattle.std.specs.Prelude.{◌≡◌, ◌≤◌};
+ghost use Rattle.std.specs.Ordering.{ordering_index};
 ghost use Rattle.table.specs.Table.{node_at};
 ghost use Rattle.theory.specs.Widths.{conditions_most};
 ghost use Rattle.rule_node.specs.Codes.{yes_side_code};
@@ -10,33 +11,19 @@ use super::Way;
 use rule_node::Down;
 use rule_node::codes::YES_SIDE;
 use rule_tests::{below_at, later, order_from};
+use std::cmp::Ordering;
 
 // The way on from what lies below a node, o being the order of its test and the condition that is picked by.
-pub fn way(d: Down, op: usize, o: usize) -> Way
-    ensures { result ≡ way_by d op o }
+pub fn way(d: Down, op: usize, o: Ordering) -> Way
+    ensures { result ≡ way_by d op (ordering_index o) }
 {
-    if o == 1 {
-        if op == YES_SIDE {
-            return Way {
-                ends: d.ends,
-                picks: true,
-                high: d.high,
-                low: d.low,
-            };
-        }
-        return Way {
-            ends: d.ends,
-            picks: true,
-            high: d.low,
-            low: d.low,
-        };
+    if d.ends {
+        return Way::End;
     }
-    Way {
-        ends: d.ends,
-        picks: false,
-        high: d.high,
-        low: d.low,
-    }
+    let Ordering::Equal = o else {
+        return Way::Both(d.high, d.low);
+    };
+    Way::Pick(if op == YES_SIDE { d.high } else { d.low })
 }
 
 // What the rule op goes on with at f. Only a side looks for its condition.
@@ -46,8 +33,7 @@ pub fn way_at(nodes: &[i64], op: usize, f: usize, p: usize) -> Way
 {
     let d = below_at(nodes, f);
     if op < YES_SIDE {
-        return way(d, op, 0);
+        return way(d, op, Ordering::Less);
     }
-    let o = order_from(nodes, f, later(p));
-    way(d, op, o)
+    way(d, op, order_from(nodes, f, later(p)))
 }

@@ -10,9 +10,8 @@ use lib.IntN.{ℤ, pos}
 use lib.Signed.{le_z}
 use Rattle.whole.specs.Cases.{if}
 use Rattle.whole.proofs.Signed.{R, small_back}
-use Rattle.table.specs.Table.{node_at, is_leaf}
+use Rattle.table.specs.Table.{Answer, stop_of, at_of, count_of, made, node_at, is_leaf}
 use Rattle.table.specs.declared.Node.{Node}
-use Rattle.table.specs.declared.Made.{Made}
 use Rattle.theory.specs.Widths.{levels_most}
 use Rattle.theory.specs.Diagram.{Linear, Test, lin_of, Tree, leaf, zeros, test_of}
 use Rattle.theory.specs.Computation.{Comp, ret}
@@ -40,23 +39,23 @@ unfolding test_by test_in
 leaf_test l n f x v e = ap test_in e ∙ ap test_of (leaf_lin x v)
 
 module _ {cap : ℕ} {l : List ℤ} {w : List ℕ} {n : ℕ} (A : Table rule_of cap l w n) (f g p : ℕ) (F : AtLeaf l n f) (hg : g < n) (hp : p < n) {x : Node} (ex : x ≡ node_at l f) {c : Bool} (ec : c ≡ zeros (linear_held x).coeffs) where
-  abbrev Decided : List ℤ → List ℕ → Made → Type 0
+  abbrev Decided : List ℤ → List ℕ → Answer → Type 0
   Decided = RuleRan rule_of cap l w n (decide (linear_held (node_at l f)) (tree_at l n g) (tree_at l n p))
 
   abbrev y : Node
   y = node_at l f
 
-  pub decided_constant : c ≡ true → {k : ℕ} {v : ℤ} → v ≡ constant_of x → k ≡ if (le_z (R v) (pos 0)) g p → Decided l w (record { stop = 0; at = k; count = n })
+  pub decided_constant : c ≡ true → {k : ℕ} {v : ℤ} → v ≡ constant_of x → k ≡ if (le_z (R v) (pos 0)) g p → Decided l w (made k n)
   unfolding linear_held
   decided_constant q {k} {v} ev e =
       ran_as (sym (decide_constant (linear_held y) (tree_at l n g) (tree_at l n p) (ap (λ (x : Node). zeros (linear_held x).coeffs) (sym ex) ∙ (sym ec ∙ q))))
       (go (le_z (constant_of y) (pos 0)) (e ∙ ap (λ (z : ℤ). if (le_z z (pos 0)) g p) (ap R (ev ∙ ap constant_of ex) ∙ small_back (constant_of y) ((A.bare.good.valid f F.below).nums.each levels_most))))
     where
-      go : (b : Bool) → k ≡ if b g p → RuleRan rule_of cap l w n (if b (ret (tree_at l n g)) (ret (tree_at l n p))) l w (record { stop = 0; at = k; count = n })
-      go true e = subst (λ (j : ℕ). RuleRan rule_of cap l w n (ret (tree_at l n g)) l w (record { stop = 0; at = j; count = n })) (sym e) (ran_ret A g hg)
-      go false e = subst (λ (j : ℕ). RuleRan rule_of cap l w n (ret (tree_at l n p)) l w (record { stop = 0; at = j; count = n })) (sym e) (ran_ret A p hp)
+      go : (b : Bool) → k ≡ if b g p → RuleRan rule_of cap l w n (if b (ret (tree_at l n g)) (ret (tree_at l n p))) l w (made k n)
+      go true e = subst (λ (j : ℕ). RuleRan rule_of cap l w n (ret (tree_at l n g)) l w (made j n)) (sym e) (ran_ret A g hg)
+      go false e = subst (λ (j : ℕ). RuleRan rule_of cap l w n (ret (tree_at l n p)) l w (made j n)) (sym e) (ran_ret A p hp)
 
-  pub decided_test : c ≡ false → {l₁ : List ℤ} {w₁ : List ℕ} {r : Made} → RuleRan rule_of cap l w n (choose (test_by l n 11 f) (tree_at l n g) (tree_at l n p)) l₁ w₁ r → Decided l₁ w₁ r
+  pub decided_test : c ≡ false → {l₁ : List ℤ} {w₁ : List ℕ} {r : Answer} → RuleRan rule_of cap l w n (choose (test_by l n 11 f) (tree_at l n g) (tree_at l n p)) l₁ w₁ r → Decided l₁ w₁ r
   decided_test q Q = ran_as
       (ap (λ (t : Test). choose t (tree_at l n g) (tree_at l n p)) (leaf_test l n f y (A.bare.good.valid f F.below) (at_leaf A.bare.good f F.below F.ends))
       ∙ sym (decide_test (linear_held y) (tree_at l n g) (tree_at l n p) (ap (λ (x : Node). zeros (linear_held x).coeffs) (sym ex) ∙ (sym ec ∙ q))))
@@ -82,7 +81,7 @@ module _ {cap : ℕ} {l : List ℤ} {w : List ℕ} {n : ℕ} (A : Table rule_of 
     walk_leaf q = record { below = hf; ends = kind_of es ∙ q }
 
     -- it is a leaf
-    pub walk_ends : s.ends ≡ true → {l₁ : List ℤ} {w₁ : List ℕ} {r : Made} → RuleRan rule_of cap l w n (decide (linear_held (node_at l f)) (tree_at l n g) (tree_at l n p)) l₁ w₁ r → RuleRan rule_of cap l w n (rule_of l n 9 f g p 0) l₁ w₁ r
+    pub walk_ends : s.ends ≡ true → {l₁ : List ℤ} {w₁ : List ℕ} {r : Answer} → RuleRan rule_of cap l w n (decide (linear_held (node_at l f)) (tree_at l n g) (tree_at l n p)) l₁ w₁ r → RuleRan rule_of cap l w n (rule_of l n 9 f g p 0) l₁ w₁ r
     walk_ends q Q = ran_as
         (sym (rule_walk l n f g p 0 ∙ (over_leaf choose (λ x. decide (lin_of x) (tree_at l n g) (tree_at l n p)) A.bare.good f hf (kind_of es ∙ q)
         ∙ ap (λ (z : Linear). decide z (tree_at l n g) (tree_at l n p)) (leaf_lin (node_at l f) (A.bare.good.valid f hf)))))
@@ -95,8 +94,8 @@ module _ {cap : ℕ} {l : List ℤ} {w : List ℕ} {n : ℕ} (A : Table rule_of 
 
 -- ---- gone on with
 
-module _ {cap : ℕ} {l l₁ : List ℤ} {w w₁ : List ℕ} {n : ℕ} (f g p : ℕ) (hp : p < n) {s : Sides} (o : On l n (walked (tree_at l n p)) choose f g s) {h : Made} (Q : RuleRan rule_of cap l w n (rule_of l n 9 s.fh s.gh p 0) l₁ w₁ h) where
-  abbrev Done : List ℤ → List ℕ → Made → Type 0
+module _ {cap : ℕ} {l l₁ : List ℤ} {w w₁ : List ℕ} {n : ℕ} (f g p : ℕ) (hp : p < n) {s : Sides} (o : On l n (walked (tree_at l n p)) choose f g s) {h : Answer} (Q : RuleRan rule_of cap l w n (rule_of l n 9 s.fh s.gh p 0) l₁ w₁ h) where
+  abbrev Done : List ℤ → List ℕ → Answer → Type 0
   Done = RuleRan rule_of cap l w n (rule_of l n 9 f g p 0)
 
   abbrev M : Tree → Tree → Comp Tree
@@ -105,30 +104,30 @@ module _ {cap : ℕ} {l l₁ : List ℤ} {w w₁ : List ℕ} {n : ℕ} (f g p : 
   high : RuleRan rule_of cap l w n (M (tree_at l n s.fh) (tree_at l n s.gh)) l₁ w₁ h
   high = ran_as (rule_walk l n s.fh s.gh p 0) Q
 
-  out : {l' : List ℤ} {w' : List ℕ} {r : Made} → RuleRan rule_of cap l w n (M (tree_at l n f) (tree_at l n g)) l' w' r → Done l' w' r
+  out : {l' : List ℤ} {w' : List ℕ} {r : Answer} → RuleRan rule_of cap l w n (M (tree_at l n f) (tree_at l n g)) l' w' r → Done l' w' r
   out P = ran_as (sym (rule_walk l n f g p 0)) P
 
-  pub high_ended : (h.stop ≡ 0 → ⊥) → Done l₁ w₁ h
+  pub high_ended : (stop_of h ≡ 0 → ⊥) → Done l₁ w₁ h
   high_ended off = out (high_stops _ _ _ _ _ _ _ _ _ _ _ o _ high off)
 
   -- what the low sides ask
-  pub low_asks : Table rule_of cap l₁ w₁ h.count × (s.fl < h.count) × (s.gl < h.count) × (p < h.count)
+  pub low_asks : Table rule_of cap l₁ w₁ (count_of h) × (s.fl < (count_of h)) × (s.gl < (count_of h)) × (p < (count_of h))
   low_asks = (Q.table, lt_of_lt_of_le o.fl Q.more, lt_of_lt_of_le o.gl Q.more, lt_of_lt_of_le hp Q.more)
 
-  module _ (ok : h.stop ≡ 0) {l₂ : List ℤ} {w₂ : List ℕ} {k : Made} (S : RuleRan rule_of cap l₁ w₁ h.count (rule_of l₁ h.count 9 s.fl s.gl p 0) l₂ w₂ k) where
-    low : RuleRan rule_of cap l₁ w₁ h.count (M (tree_at l₁ h.count s.fl) (tree_at l₁ h.count s.gl)) l₂ w₂ k
-    low = ran_as (rule_walk l₁ h.count s.fl s.gl p 0 ∙ ap (λ (P : Tree). walked P (tree_at l₁ h.count s.fl) (tree_at l₁ h.count s.gl)) (trees_kept (grown Q) p hp)) S
+  module _ (ok : stop_of h ≡ 0) {l₂ : List ℤ} {w₂ : List ℕ} {k : Answer} (S : RuleRan rule_of cap l₁ w₁ (count_of h) (rule_of l₁ (count_of h) 9 s.fl s.gl p 0) l₂ w₂ k) where
+    low : RuleRan rule_of cap l₁ w₁ (count_of h) (M (tree_at l₁ (count_of h) s.fl) (tree_at l₁ (count_of h) s.gl)) l₂ w₂ k
+    low = ran_as (rule_walk l₁ (count_of h) s.fl s.gl p 0 ∙ ap (λ (P : Tree). walked P (tree_at l₁ (count_of h) s.fl) (tree_at l₁ (count_of h) s.gl)) (trees_kept (grown Q) p hp)) S
 
-    pub low_ended : (k.stop ≡ 0 → ⊥) → Done l₂ w₂ k
+    pub low_ended : (stop_of k ≡ 0 → ⊥) → Done l₂ w₂ k
     low_ended off = out (low_stops _ _ _ _ _ _ _ _ _ _ _ o _ high ok _ _ _ low off)
 
-    root : Root l₂ k.count s.root
+    root : Root l₂ (count_of k) s.root
     root = root_on _ _ _ _ _ _ _ _ _ _ _ o _ high ok _ _ _ low
 
-    module _ (ok' : k.stop ≡ 0) where
+    module _ (ok' : stop_of k ≡ 0) where
       -- what is asked over the root
-      pub root_asks : Table rule_of cap l₂ w₂ k.count × NamesTest k.count 11 s.root × (h.at < k.count) × (k.at < k.count)
+      pub root_asks : Table rule_of cap l₂ w₂ (count_of k) × NamesTest (count_of k) 11 s.root × ((at_of h) < (count_of k)) × ((at_of k) < (count_of k))
       root_asks = (S.table, inr (refl, root.below), high_in _ _ _ _ _ _ _ _ _ _ _ o _ high ok _ _ _ low, S.within ok')
 
-      pub root_made : {l₃ : List ℤ} {w₃ : List ℕ} {r : Made} → RuleRan rule_of cap l₂ w₂ k.count (choose (test_by l₂ k.count 11 s.root) (tree_at l₂ k.count h.at) (tree_at l₂ k.count k.at)) l₃ w₃ r → Done l₃ w₃ r
-      root_made P = out (joined _ _ _ _ _ _ _ _ _ _ _ o _ high ok _ _ _ low ok' _ _ _ (ran_as (ap (λ (t : Test). choose t (tree_at l₂ k.count h.at) (tree_at l₂ k.count k.at)) (root_test S.table root)) P))
+      pub root_made : {l₃ : List ℤ} {w₃ : List ℕ} {r : Answer} → RuleRan rule_of cap l₂ w₂ (count_of k) (choose (test_by l₂ (count_of k) 11 s.root) (tree_at l₂ (count_of k) (at_of h)) (tree_at l₂ (count_of k) (at_of k))) l₃ w₃ r → Done l₃ w₃ r
+      root_made P = out (joined _ _ _ _ _ _ _ _ _ _ _ o _ high ok _ _ _ low ok' _ _ _ (ran_as (ap (λ (t : Test). choose t (tree_at l₂ (count_of k) (at_of h)) (tree_at l₂ (count_of k) (at_of k))) (root_test S.table root)) P))

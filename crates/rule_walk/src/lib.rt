@@ -15,10 +15,10 @@ use rule_leaves::numbers::{constant, decided, is_constant};
 use rule_node::Down;
 use rule_node::codes::{CHOOSE_NAMED, WALK};
 use rule_tests::below_at;
-use table::Made;
+use table::{Made, Stopped};
 use table_cache::{keep, look};
 
-// What lies below the node at f.
+// What lies below the node at f. A second name of `below_at` that docs/PORT.md keeps.
 pub fn down_at(nodes: &[i64], f: usize) -> Down
     requires { At nodes.now f }
     ensures { result ≡ down_of (node_at nodes.now f) }
@@ -35,18 +35,16 @@ fn decide_at(
     f: usize,
     g: usize,
     p: usize,
-) -> Made
+) -> Result<Made, Stopped>
     requires { Table rule_of cap nodes.old work.old count × AtLeaf nodes.old count f × (g < count) × (p < count) }
     ensures { RuleRan rule_of cap nodes.old work.old count (decide (linear_held (node_at nodes.old f)) (tree_at nodes.old count g) (tree_at nodes.old count p)) nodes.new work.new result }
 {
     let x = table::get(nodes, f);
     if is_constant(x) {
-        let k = constant(x);
-        return Made {
-            stop: 0,
-            at: decided(k, g, p),
+        return Ok(Made {
+            at: decided(constant(x), g, p),
             count,
-        };
+        });
     }
     choose(nodes, work, cap, count, CHOOSE_NAMED, f, g, p)
 }
@@ -60,7 +58,7 @@ pub fn walk(
     f: usize,
     g: usize,
     p: usize,
-) -> Made
+) -> Result<Made, Stopped>
     requires { Table rule_of cap nodes.old work.old count × (f < count) × (g < count) × (p < count) }
     ensures { RuleRan rule_of cap nodes.old work.old count (rule_of nodes.old count 9 f g p 0) nodes.new work.new result }
 {
@@ -68,26 +66,12 @@ pub fn walk(
     if s.ends {
         return decide_at(nodes, work, cap, count, f, g, p);
     }
-    let c = look(work, cap, WALK, f, g, p, 0);
-    if c != 0 {
-        return Made {
-            stop: 0,
-            at: c - 1,
-            count,
-        };
+    if let Some(at) = look(work, cap, WALK, f, g, p, 0) {
+        return Ok(Made { at, count });
     }
-    let h = walk(nodes, work, cap, count, s.high, g, p);
-    if h.stop != 0 {
-        return h;
-    }
-    let l = walk(nodes, work, cap, h.count, s.low, g, p);
-    if l.stop != 0 {
-        return l;
-    }
-    let r = choose(nodes, work, cap, l.count, CHOOSE_NAMED, f, h.at, l.at);
-    if r.stop != 0 {
-        return r;
-    }
+    let h = walk(nodes, work, cap, count, s.high, g, p)?;
+    let l = walk(nodes, work, cap, h.count, s.low, g, p)?;
+    let r = choose(nodes, work, cap, l.count, CHOOSE_NAMED, f, h.at, l.at)?;
     keep(work, cap, WALK, f, g, p, 0, r.at);
-    r
+    Ok(r)
 }

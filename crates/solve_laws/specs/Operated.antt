@@ -1,8 +1,7 @@
 -- An operation of the theory, done on a table: collect, then run its rule, in whatever part of the room.
 use Rattle.std.specs.Prelude.{◌≡◌, refl, List, [], ◌∷◌, ℕ, zero, suc, max, ◌≤◌, ◌<◌, ℤ, length, get_or}
 use Rattle.std.proofs.Common.{sym, ap, ap₂, ◌∙◌, subst, lt_of_lt_of_le, arith}
-use Rattle.table.specs.declared.Made.{Made}
-use Rattle.table.specs.Table.{node_at}
+use Rattle.table.specs.Table.{node_at, Answer, stop_of, at_of, count_of}
 use Rattle.theory.specs.Diagram.{Tree}
 use Rattle.theory.specs.Computation.{Comp, Out, done, stopped, run, enter_all, Moment, Ops, operation, refused, run_all}
 use Rattle.rule_node.specs.Nodes.{blank, trees, tree_at, Good, Grown}
@@ -54,20 +53,20 @@ held_as a H = record { good = H.good; space = H.space; below = H.below; roots = 
 -- ---- a rule's run
 
 -- what a rule that ran on the table of n nodes l came to, at the words l', w' and the answer r: the computation m with room for cap
-pub record Came (cap : ℕ) (l : List ℤ) (n : ℕ) (m : Comp Tree) (l' : List ℤ) (w' : List ℕ) (r : Made) : Type 0 where
-  pub ran : out_of r (trees l' r.count) ≡ run cap m (trees l n)
-  pub good : Good l' r.count
-  pub space : Space cap l' w' r.count
-  pub within : r.stop ≡ 0 → r.at < r.count
-  pub more : n ≤ r.count
+pub record Came (cap : ℕ) (l : List ℤ) (n : ℕ) (m : Comp Tree) (l' : List ℤ) (w' : List ℕ) (r : Answer) : Type 0 where
+  pub ran : out_of r (trees l' (count_of r)) ≡ run cap m (trees l n)
+  pub good : Good l' (count_of r)
+  pub space : Space cap l' w' (count_of r)
+  pub within : stop_of r ≡ 0 → at_of r < count_of r
+  pub more : n ≤ count_of r
   pub kept : (i : ℕ) → i < n → node_at l' i ≡ node_at l i
 
 -- the table has grown
-pub came_grown : {cap n : ℕ} {l l' : List ℤ} {w' : List ℕ} {m : Comp Tree} {r : Made} → Came cap l n m l' w' r → Grown l n l' r.count
+pub came_grown : {cap n : ℕ} {l l' : List ℤ} {w' : List ℕ} {m : Comp Tree} {r : Answer} → Came cap l n m l' w' r → Grown l n l' (count_of r)
 came_grown S = record { more = S.more; kept = S.kept }
 
 -- so for an equal computation
-pub came_as : {cap n : ℕ} {l l' : List ℤ} {w' : List ℕ} {m m' : Comp Tree} {r : Made} → m ≡ m' → Came cap l n m l' w' r → Came cap l n m' l' w' r
+pub came_as : {cap n : ℕ} {l l' : List ℤ} {w' : List ℕ} {m m' : Comp Tree} {r : Answer} → m ≡ m' → Came cap l n m l' w' r → Came cap l n m' l' w' r
 came_as {cap} {n} {l} {l'} {w'} {r = r} e S = subst (λ (z : Comp Tree). Came cap l n z l' w' r) e S
 
 -- ---- a collected table
@@ -98,41 +97,41 @@ module _ {cap n n₁ : ℕ} {l l₁ : List ℤ} {w w₁ : List ℕ} {ρ ρ₁ : 
 
   -- ---- the operation's rule ran on it
 
-  module _ {c : Comp Tree} {l₂ : List ℤ} {w₂ : List ℕ} {r : Made} (S : Came cap l₁ n₁ c l₂ w₂ r) where
+  module _ {c : Comp Tree} {l₂ : List ℤ} {w₂ : List ℕ} {r : Answer} (S : Came cap l₁ n₁ c l₂ w₂ r) where
     -- the operation's computation comes to the tree at the answer, with the table's count of nodes
-    pub worked : r.stop ≡ 0 → Works cap R c (tree_at l₂ r.count r.at) r.count
+    pub worked : stop_of r ≡ 0 → Works cap R c (tree_at l₂ (count_of r) (at_of r)) (count_of r)
     worked ok =
-        let X = trees l₂ r.count in
-        let o : run cap c (trees l₁ n₁) ≡ done (get_or X r.at blank) X = sym S.ran ∙ out_ok r X ok in
+        let X = trees l₂ (count_of r) in
+        let o : run cap c (trees l₁ n₁) ≡ done (get_or X (at_of r) blank) X = sym S.ran ∙ out_ok r X ok in
         let d = done_as (subst (λ (q : Out Tree). SameOut q (run cap c (enter_all R []))) o (collected_run cap c)) in
-        record { nodes = d.0; comes = d.1; count = sym d.2.count ∙ trees_length l₂ r.count }
+        record { nodes = d.0; comes = d.1; count = sym d.2.count ∙ trees_length l₂ (count_of r) }
 
     -- or stops where the rule stopped
-    pub stops : (r.stop ≡ 0 → ⊥) → Stops cap R c r.stop
+    pub stops : (stop_of r ≡ 0 → ⊥) → Stops cap R c (stop_of r)
     stops off =
-        let o : run cap c (trees l₁ n₁) ≡ stopped r.stop = sym S.ran ∙ out_no r (trees l₂ r.count) off in
+        let o : run cap c (trees l₁ n₁) ≡ stopped (stop_of r) = sym S.ran ∙ out_no r (trees l₂ (count_of r)) off in
         record { refuses = stopped_as (subst (λ (q : Out Tree). SameOut q (run cap c (enter_all R []))) o (collected_run cap c)) }
 
     module _ {A : Type 0} (p : ℕ) (h : Moment) (f : Tree → Ops A) where
       -- done: what is left to run is what follows from its result, with the table's count in the peak
-      pub operated : r.stop ≡ 0 → run_all cap p (operation h R c f) ≡ run_all cap (max p r.count) (f (tree_at l₂ r.count r.at))
+      pub operated : stop_of r ≡ 0 → run_all cap p (operation h R c f) ≡ run_all cap (max p (count_of r)) (f (tree_at l₂ (count_of r) (at_of r)))
       operated ok = works_run p h f (worked ok)
 
       -- stopped: the whole is refused, at the operation's place
-      pub operation_refused : (r.stop ≡ 0 → ⊥) → run_all cap p (operation h R c f) ≡ refused r.stop h.stage
+      pub operation_refused : (stop_of r ≡ 0 → ⊥) → run_all cap p (operation h R c f) ≡ refused (stop_of r) h.stage
       operation_refused off = stops_run p h f (stops off)
 
     -- the table afterwards holds the same diagrams at the same indexes
-    pub ran_below : Below ρ₁ r.count
+    pub ran_below : Below ρ₁ (count_of r)
     ran_below = below_more S.more C.below
 
-    pub ran_roots : roots_of (trees l₂ r.count) ρ₁ ≡ roots_of (trees l n) ρ
+    pub ran_roots : roots_of (trees l₂ (count_of r)) ρ₁ ≡ roots_of (trees l n) ρ
     ran_roots = roots_grown (came_grown S) ρ₁ C.below ∙ C.roots
 
-    pub ran_at : (j : ℕ) → j < length ρ → tree_at l₂ r.count (get_or ρ₁ j 0) ≡ tree_at l n (get_or ρ j 0)
+    pub ran_at : (j : ℕ) → j < length ρ → tree_at l₂ (count_of r) (get_or ρ₁ j 0) ≡ tree_at l n (get_or ρ j 0)
     ran_at j h = trees_kept (came_grown S) (get_or ρ₁ j 0) (C.below.at j (let z = C.roots_length in omega arith)) ∙ collected_at j h
 
-    pub ran_held : RootsHeld cap l₂ w₂ r.count ρ₁ R
+    pub ran_held : RootsHeld cap l₂ w₂ (count_of r) ρ₁ R
     ran_held = record {
       good = S.good;
       space = S.space;
@@ -141,11 +140,11 @@ module _ {cap n n₁ : ℕ} {l l₁ : List ℤ} {w w₁ : List ℕ} {ρ ρ₁ : 
     }
 
     -- and the result besides
-    pub ran_holds : r.stop ≡ 0 → RootsHeld cap l₂ w₂ r.count (r.at ∷ ρ₁) (tree_at l₂ r.count r.at ∷ R)
+    pub ran_holds : stop_of r ≡ 0 → RootsHeld cap l₂ w₂ (count_of r) ((at_of r) ∷ ρ₁) (tree_at l₂ (count_of r) (at_of r) ∷ R)
     unfolding roots_of
     ran_holds ok = record {
       good = S.good;
       space = S.space;
       below = below_cons (S.within ok) ran_below;
-      roots = alike_cons (tree_at l₂ r.count r.at) ran_held.roots;
+      roots = alike_cons (tree_at l₂ (count_of r) (at_of r)) ran_held.roots;
     }

@@ -1,9 +1,9 @@
 -- Roots kept as a stack of indexes: the exact trees that they stand for, through collections and runs.
 use Rattle.std.specs.Prelude.{◌≡◌, refl, ℕ, zero, suc, ◌<◌, ℤ, length, get_or}
+use Rattle.table.specs.Table.{Answer, count_of}
 use Rattle.std.proofs.Common.{sym, ap₂, ◌∙◌, ⊎_elim, arith}
 use Rattle.std.proofs.Math.Path.{ap}
 use mathlib.Core.List.{List, [], ◌∷◌, ◌++◌}
-use Rattle.table.specs.declared.Made.{Made}
 use Rattle.theory.specs.Diagram.{Tree}
 use Rattle.theory.specs.Computation.{Comp, member}
 use Rattle.theory.specs.Meaning.{Action}
@@ -85,7 +85,7 @@ module _ {cap : ℕ} {l : List ℤ} {w : List ℕ} {n : ℕ} {ρ : List ℕ} {Q 
   pub rooted_collected : {n₁ : ℕ} {l₁ : List ℤ} {w₁ ρ₁ : List ℕ} → Collected l l₁ w w₁ ρ ρ₁ n n₁ → Rooted cap l₁ w₁ n₁ ρ₁ Q
   rooted_collected C = record { good = C.good; space = collected_space H.space C; below = C.below; roots = C.roots ∙ H.roots }
 
-  pub rooted_ran : {c : Comp Tree} {l₁ : List ℤ} {w₁ : List ℕ} {r : Made} → Came cap l n c l₁ w₁ r → Rooted cap l₁ w₁ r.count ρ Q
+  pub rooted_ran : {c : Comp Tree} {l₁ : List ℤ} {w₁ : List ℕ} {r : Answer} → Came cap l n c l₁ w₁ r → Rooted cap l₁ w₁ (count_of r) ρ Q
   rooted_ran S = record {
     good = S.good;
     space = S.space;

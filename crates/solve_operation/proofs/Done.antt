@@ -1,5 +1,6 @@
 -- One operation: the first roots collected, the rule run, its result put among them.
 use mathlib.Core.Path.{◌≡◌, refl, sym, ap, ◌∙◌, subst}
+use Rattle.table.specs.Table.{Answer, stop_of, at_of, count_of}
 use mathlib.Core.List.{List, [], ◌∷◌, ◌++◌}
 use Prim.Native.Nat.{ℕ, suc, max, ◌≤◌, ◌<◌}
 use native.Mathlib.Nat.{max-le, le-max_left, le-max_right}
@@ -7,7 +8,6 @@ use native.Mathlib.Omega.{arith}
 use lib.IntN.{ℤ}
 use lib.ListN.{length, get_or, set, take, drop, length-set, take-append-drop}
 use lib.Seq.{length-take-le, take-take, take-suc-set, get_or-set_same}
-use Rattle.table.specs.declared.Made.{Made}
 use Rattle.theory.specs.Diagram.{Tree}
 use Rattle.rule_node.specs.Nodes.{trees, tree_at, Good}
 use Rattle.table_unique.specs.Unique.{Space}
@@ -53,28 +53,33 @@ module _ {cap n held : ℕ} {l : List ℤ} {w R : List ℕ} (S : Standing cap l 
     pub rule_asks : (rule : Rule) → FitsRule held rule → Space cap l₁ w₁ n₁ × Good l₁ n₁ × Below (take held R₁) n₁ × FitsRule (length (take held R₁)) rule
     rule_asks rule F = (collected_space S.space K.collected, K.collected.good, K.collected.below, subst (λ (k : ℕ). FitsRule k rule) (sym held_length) F)
 
-    module _ (rule : Rule) {l₂ : List ℤ} {w₂ : List ℕ} {r : Made} (Q : Came cap l₁ n₁ (comp_of (roots_of (trees l₁ n₁) (take held R₁)) rule) l₂ w₂ r) where
+    module _ (rule : Rule) {l₂ : List ℤ} {w₂ : List ℕ} {r : Answer} (Q : Came cap l₁ n₁ (comp_of (roots_of (trees l₁ n₁) (take held R₁)) rule) l₂ w₂ r) where
       -- of the diagrams as they were
       ran : Came cap l₁ n₁ (comp_of (held_trees l n R held) rule) l₂ w₂ r
       ran = came_as (ap (λ (Z : List Tree). comp_of Z rule) K.collected.roots) Q
 
       -- an index fits a root
-      pub answer_fits : r.stop ≡ 0 → r.at < 65536
+      pub answer_fits : stop_of r ≡ 0 → at_of r < 65536
       answer_fits ok = let a = Q.within ok in let C = Q.space in let b = C.few in let d = C.room in omega arith
 
-      pub operation_done : {to p q : ℕ} {R₂ : List ℕ} → to ≤ held → to < length R → q ≡ max p r.count → (r.stop ≡ 0 → R₂ ≡ set R₁ to r.at)
-          → Operated cap p l n R held to rule l₂ w₂ R₂ (record { stop = r.stop; count = r.count; peak = q })
+      pub operation_done : {to p q : ℕ} {R₂ : List ℕ} → to ≤ held → to < length R → q ≡ max p (count_of r) → (stop_of r ≡ 0 → R₂ ≡ set R₁ to (at_of r))
+          → Operated cap p l n R held to rule l₂ w₂ R₂ (record { stop = stop_of r; count = count_of r; peak = q })
       operation_done {to} {p} {q} {R₂} h k m put =
           let len = kept_length K in
-          let X = trees l₂ r.count in
-          let at : r.stop ≡ 0 → get_or R₂ to 0 ≡ r.at = λ ok. ap (λ (Z : List ℕ). get_or Z to 0) (put ok) ∙ get_or-set_same R₁ to r.at 0 (omega arith) in
+          let X = trees l₂ (count_of r) in
+          let at : stop_of r ≡ 0 → get_or R₂ to 0 ≡ at_of r = λ ok. ap (λ (Z : List ℕ). get_or Z to 0) (put ok) ∙ get_or-set_same R₁ to (at_of r) 0 (omega arith) in
           record {
-            works = λ ok T a. subst (λ (i : ℕ). Works cap T (comp_of (held_trees l n R held) rule) (tree_at l₂ r.count i) r.count) (sym (at ok)) (worked (rooted_held rooted a) K.collected ran ok);
+            works = λ ok T a. subst (λ (i : ℕ). Works cap T (comp_of (held_trees l n R held) rule) (tree_at l₂ (count_of r) i) (count_of r)) (sym (at ok)) (worked (rooted_held rooted a) K.collected ran ok);
             stops = λ off T a. stops (rooted_held rooted a) K.collected ran off;
             rooted = λ ok.
-                subst (λ (i : ℕ). Rooted cap l₂ w₂ r.count (take (suc to) R₂) (take to (held_trees l n R held) ++ (tree_at l₂ r.count i ∷ []))) (sym (at ok))
-                (subst (λ (ρ : List ℕ). Rooted cap l₂ w₂ r.count ρ (take to (held_trees l n R held) ++ (tree_at l₂ r.count r.at ∷ [])))
-                (ap (λ (ρ : List ℕ). ρ ++ (r.at ∷ [])) (take-take to held R₁ h) ∙ (sym (take-suc-set R₁ to r.at (omega arith)) ∙ ap (take (suc to)) (sym (put ok))))
-                (rooted_push (front {to = to} (let z = held_length in omega arith) (rooted_ran (rooted_collected rooted K.collected) ran)) r.at (Q.within ok)));
+                subst (λ (i : ℕ). Rooted cap l₂ w₂ (count_of r) (take (suc to) R₂) (take to (held_trees l n R held) ++ (tree_at l₂ (count_of r) i ∷ []))) (sym (at ok))
+                (subst (λ (ρ : List ℕ). Rooted cap l₂ w₂ (count_of r) ρ (take to (held_trees l n R held) ++ (tree_at l₂ (count_of r) (at_of r) ∷ [])))
+                (ap (λ (ρ : List ℕ). ρ ++ ((at_of r) ∷ [])) (take-take to held R₁ h) ∙ (sym (take-suc-set R₁ to (at_of r) (omega arith)) ∙ ap (take (suc to)) (sym (put ok))))
+                (rooted_push (front {to = to} (let z = held_length in omega arith) (rooted_ran (rooted_collected rooted K.collected) ran)) (at_of r) (Q.within ok)));
             peak = m;
           }
+
+      -- stopped, with the number that says why
+      pub operation_stopped : {to p q k : ℕ} {R₂ : List ℕ} → to ≤ held → to < length R → k ≡ stop_of r → q ≡ max p (count_of r) → (stop_of r ≡ 0 → ⊥)
+          → Operated cap p l n R held to rule l₂ w₂ R₂ (record { stop = k; count = count_of r; peak = q })
+      operation_stopped {to} {p} {q} {k} {R₂} h g e m off = subst (λ (z : ℕ). Operated cap p l n R held to rule l₂ w₂ R₂ (record { stop = z; count = count_of r; peak = q })) (sym e) (operation_done h g m (λ ok. absurd (off ok)))

@@ -5,14 +5,13 @@ use mathlib.Core.Logic.{◌⊎◌, inl, inr, ⊎_elim}
 use mathlib.Core.List.{List, [], ◌∷◌, ◌++◌}
 use Prim.Native.Nat.{ℕ, ◌≤◌, ◌<◌}
 use native.Mathlib.Omega.{arith}
-use borrow.Author.Tests.{eqb-true, lt-ltb, ltb-true}
+use borrow.Author.Tests.{eqb-true, eq-eqb, lt-ltb, ltb-true}
 use lib.Dec.{eqb, ltb}
 use lib.IntN.{ℤ}
 use lib.ListN.{length, get_or}
 use Rattle.whole.specs.Cases.{if, by_eq, clash}
 use Rattle.whole.specs.Within.{small}
-use Rattle.table.specs.Table.{node_at}
-use Rattle.table.specs.declared.Made.{Made}
+use Rattle.table.specs.Table.{node_at, Answer, stop_of, at_of, count_of}
 use Rattle.table.specs.declared.Node.{Node}
 use Rattle.theory.specs.Diagram.{Tree}
 use Rattle.theory.specs.Computation.{Comp, ret, named, made, Out, done, stopped, member, run}
@@ -52,17 +51,21 @@ more_room N M h (made t m) X = go (member t X) (ltb (length X) N) (ltb (length X
     go false false c f r s = inl refl
 
 -- the number that stops a run
-unfoldable pub stop_of : {A : Type 0} → Out A → ℕ
-stop_of (done t X) = 0
-stop_of (stopped k) = k
+unfoldable pub run_stop : {A : Type 0} → Out A → ℕ
+run_stop (done t X) = 0
+run_stop (stopped k) = k
 
-stop_is : (r : Made) (X : List Tree) → stop_of (out_of r X) ≡ r.stop
-unfolding stop_of out_of
-stop_is r X = by_eq (eqb r.stop 0) (λ b. stop_of (if b (done (get_or X r.at blank) X) (stopped r.stop)) ≡ r.stop) (λ e. sym (eqb-true r.stop 0 e)) (λ e. refl)
+stop_is : (r : Answer) (X : List Tree) → run_stop (out_of r X) ≡ stop_of r
+unfolding run_stop out_of
+stop_is r X = by_eq (eqb (stop_of r) 0) (λ b. run_stop (if b (done (get_or X (at_of r) blank) X) (stopped (stop_of r))) ≡ stop_of r) (λ e. sym (eqb-true (stop_of r) 0 e)) (λ e. refl)
 
-stop_twelve : stop_of {A = Tree} (stopped 12) ≡ 12
-unfolding stop_of
+stop_twelve : run_stop {A = Tree} (stopped 12) ≡ 12
+unfolding run_stop
 stop_twelve = refl
+
+-- a run that did not end for want of room
+pub not_full : (r : Answer) {b : Bool} → b ≡ eqb (stop_of r) 12 → b ≡ false → stop_of r ≡ 12 → ⊥
+not_full r e f q = clash (sym (eq-eqb (stop_of r) 12 q) ∙ (sym e ∙ f))
 
 -- ---- the chains made anew
 
@@ -82,7 +85,7 @@ rehashed_table {n = n} {l = l} S G H = fresh (record {
   };
 }) H.cache
 
-pub ran_came : {part n : ℕ} {l l' : List ℤ} {w w' : List ℕ} {m : Comp Tree} {r : Made} → RuleRan rule_of part l w n m l' w' r → Came part l n m l' w' r
+pub ran_came : {part n : ℕ} {l l' : List ℤ} {w w' : List ℕ} {m : Comp Tree} {r : Answer} → RuleRan rule_of part l w n m l' w' r → Came part l n m l' w' r
 ran_came Q =
     record { ran = Q.ran; good = Q.table.bare.good; space = Q.table.bare.chained.space; within = Q.within; more = Q.more; kept = Q.kept }
 
@@ -129,7 +132,7 @@ module _ {cap n part : ℕ} {l₀ l : List ℤ} {w₀ w : List ℕ} (Y : Trying 
       let S = Y.space in
       (record { some = S.some; few = S.few; room = S.room; words = omega (arith, Y.nodes_length, S.words); works = omega (arith, Y.work_length, S.works) }, trying_good)
 
-  module _ (R : List ℕ) (rule : Rule) {N : ℕ} {l' : List ℤ} {w' : List ℕ} {r : Made} (Q : Came N l n (comp_of (roots_of (trees l n) R) rule) l' w' r) where
+  module _ (R : List ℕ) (rule : Rule) {N : ℕ} {l' : List ℤ} {w' : List ℕ} {r : Answer} (Q : Came N l n (comp_of (roots_of (trees l n) R) rule) l' w' r) where
     -- from the nodes as they stood first
     came_first : Came N l₀ n (comp_of (roots_of (trees l₀ n) R) rule) l' w' r
     came_first = record {
@@ -141,20 +144,20 @@ module _ {cap n part : ℕ} {l₀ l : List ℤ} {w₀ w : List ℕ} (Y : Trying 
       kept = λ i h. Q.kept i h ∙ Y.kept i h;
     }
 
-  module _ (R : List ℕ) (rule : Rule) {l' : List ℤ} {w' : List ℕ} {r : Made} where
+  module _ (R : List ℕ) (rule : Rule) {l' : List ℤ} {w' : List ℕ} {r : Answer} where
     pub whole_ends : Came cap l n (comp_of (roots_of (trees l n) R) rule) l' w' r → Came cap l₀ n (comp_of (roots_of (trees l₀ n) R) rule) l' w' r
     whole_ends Q = came_first R rule Q
 
     module _ (Q : Came part l n (comp_of (roots_of (trees l n) R) rule) l' w' r) (a : length l' ≡ length l) (b : length w' ≡ length w) where
       -- not 12: so with all the room
-      pub part_ends : (r.stop ≡ 12 → ⊥) → Came cap l₀ n (comp_of (roots_of (trees l₀ n) R) rule) l' w' r
+      pub part_ends : (stop_of r ≡ 12 → ⊥) → Came cap l₀ n (comp_of (roots_of (trees l₀ n) R) rule) l' w' r
       part_ends off =
           let S = Y.space in
           let Z = came_first R rule Q in
           let m = comp_of (roots_of (trees l₀ n) R) rule in
           record {
             ran = ⊎_elim
-                (λ e. absurd (off (sym (stop_is r (trees l' r.count)) ∙ (ap stop_of (Z.ran ∙ e) ∙ stop_twelve))))
+                (λ e. absurd (off (sym (stop_is r (trees l' (count_of r))) ∙ (ap run_stop (Z.ran ∙ e) ∙ stop_twelve))))
                 (λ e. Z.ran ∙ sym e)
                 (more_room part cap Y.within m (trees l₀ n));
             good = Z.good;

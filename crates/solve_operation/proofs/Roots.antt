@@ -1,5 +1,6 @@
 -- The first roots of a table: lent to a collection, and read as levels.
 use mathlib.Core.Path.{◌≡◌, refl, sym, ap, ap₂, ◌∙◌, subst}
+use Rattle.table.specs.Table.{Answer}
 use mathlib.Core.List.{List, [], ◌∷◌, ◌++◌}
 use Prim.Native.Nat.{ℕ, ◌+◌, ◌-◌, ◌≤◌, ◌<◌}
 use native.Mathlib.Omega.{arith}
@@ -9,7 +10,6 @@ use lib.IntN.{ℤ}
 use lib.ListN.{length, get_or, take, drop, length-append, length-drop, take-append-drop, get_or-eq_default}
 use lib.Seq.{take_at, drop_at, length-take-le, get_or-take, get_or-drop, ext_get_or}
 use Rattle.whole.specs.Cases.{by_eq}
-use Rattle.table.specs.declared.Made.{Made}
 use Rattle.theory.specs.Widths.{levels_most}
 use Rattle.theory.specs.Diagram.{Tree}
 use Rattle.theory.specs.Rules.{substitute}
@@ -90,6 +90,6 @@ module _ (R : List ℕ) (at m : ℕ) (h : at + m ≤ length R) where
       ∙ sym (get_or-take m (drop at Q) i blank j)))))
 
   -- a substitution by them
-  pub levels_ran : {cap n f : ℕ} {l l' : List ℤ} {w w' : List ℕ} {r : Made} → f < length R → RuleRan rule_of cap l w n
+  pub levels_ran : {cap n f : ℕ} {l l' : List ℤ} {w w' : List ℕ} {r : Answer} → f < length R → RuleRan rule_of cap l w n
       (substitute (levels_at l n L) (tree_at l n (get_or R f 0))) l' w' r → RuleRan rule_of cap l w n (substitutes (roots_of (trees l n) R) at m f) l' w' r
   levels_ran {n = n} {f = f} {l = l} j S = ran_as (ap₂ substitute (levels_are l n) (sym (roots_at (trees l n) R f j))) S

@@ -1,5 +1,6 @@
 -- The rule of an operation, run on the diagrams at roots.
 use mathlib.Core.Path.{◌≡◌, refl, sym, ap, ap₂, ◌∙◌, subst}
+use Rattle.table.specs.Table.{Answer}
 use mathlib.Core.Bool.{Bool, true}
 use mathlib.Core.List.{List}
 use Prim.Native.Nat.{ℕ, ◌^◌, ◌≤◌, ◌<◌}
@@ -8,7 +9,6 @@ use lib.ListN.{length, get_or}
 use Rattle.whole.specs.Cases.{if}
 use Rattle.whole.specs.Within.{small}
 use Rattle.table.specs.declared.Node.{Node}
-use Rattle.table.specs.declared.Made.{Made}
 use Rattle.theory.specs.Widths.{conditions_most, actions_most, weights_most}
 use Rattle.theory.specs.Diagram.{Tree, leaf, plain, no_coeffs}
 use Rattle.theory.specs.Computation.{Comp, run, stopped, make}
@@ -49,7 +49,7 @@ zero_run cap X =
 
 -- ---- each rule, where the code took it apart
 
-module _ {cap n : ℕ} {l l' : List ℤ} {w w' : List ℕ} {r : Made} (R : List ℕ) (rule : Rule) where
+module _ {cap n : ℕ} {l l' : List ℤ} {w w' : List ℕ} {r : Answer} (R : List ℕ) (rule : Rule) where
   pub zero_ran : {s : Node} → rule ≡ Zero → s ≡ zero_node → Table rule_of cap l w n → Grew cap l w n (make_leaf (linear_held s)) l' w' r → RuleRan rule_of cap l w n (comp_of (roots_of (trees l n) R) rule) l' w' r
   unfolding comp_of
   zero_ran e q A G =

@@ -2,7 +2,7 @@
 // in a part of the room that follows what is held.
 #![tactic(auto)]
 
-ghost use Rattle.std.specs.Prelude.{◌≡◌, ◌+◌, ◌≤◌, ◌<◌, max, length, take};
+ghost use Rattle.std.specs.Prelude.{◌≡◌, ◌+◌, ◌≤◌, ◌<◌, max, length, take, eqb};
 ghost use Rattle.rule_node.specs.Nodes.{trees, Good};
 ghost use Rattle.rule_node.specs.Table.{Table, RuleRan};
 ghost use Rattle.rule_node.specs.EntryMeaning.{rule_of};
@@ -10,10 +10,10 @@ ghost use Rattle.table_unique.specs.Unique.{Space};
 ghost use Rattle.collect_mark.specs.Mark.{roots_of, Below};
 ghost use Rattle.solve_laws.specs.Operated.{Came};
 ghost use Rattle.solve_operation.specs.Operation.{substitutes, comp_of, zero_node, FitsLevels, FitsRule, Standing, Kept, Operated};
-ghost use Rattle.table.specs.Table.{nodes_most};
+ghost use Rattle.table.specs.Table.{nodes_most, stop_of};
 
-use rule_node::codes::BEST;
-use table::{Made, Node};
+use rule_apply::Merge;
+use table::{Made, Node, Stop, Stopped};
 use whole::NUMBERS;
 
 // What an operation computes, of roots by their places: w, f and g are places, as `at` is the first of m next levels.
@@ -58,7 +58,7 @@ fn replace_levels(
     at: usize,
     m: usize,
     f: usize,
-) -> Made
+) -> Result<Made, Stopped>
     requires { Table rule_of cap nodes.old work.old count × Below roots.now count × FitsLevels (length roots.now) at m f }
     ensures { RuleRan rule_of cap nodes.old work.old count (substitutes (roots_of (trees nodes.old count) roots.now) at m f) nodes.new work.new result }
 {
@@ -85,7 +85,7 @@ fn compute(
     count: usize,
     roots: &[u32],
     rule: Rule,
-) -> Made
+) -> Result<Made, Stopped>
     requires { Table rule_of cap nodes.old work.old count × Below roots.now count × FitsRule (length roots.now) rule }
     ensures { RuleRan rule_of cap nodes.old work.old count (comp_of (roots_of (trees nodes.old count) roots.now) rule) nodes.new work.new result }
 {
@@ -123,7 +123,7 @@ fn compute(
                 work,
                 cap,
                 count,
-                BEST,
+                Merge::Best,
                 roots[f] as usize,
                 roots[g] as usize,
             )
@@ -139,7 +139,7 @@ fn attempt(
     count: usize,
     roots: &[u32],
     rule: Rule,
-) -> Made
+) -> Result<Made, Stopped>
     requires { Space part nodes.old work.old count × Good nodes.old count × Below roots.now count × FitsRule (length roots.now) rule }
     ensures { Came part nodes.old count (comp_of (roots_of (trees nodes.old count) roots.now) rule) nodes.new work.new result }
 {
@@ -170,6 +170,16 @@ pub fn wider_part(cap: usize, part: usize) -> usize
     cap.min(part * 16)
 }
 
+// Whether a run ended for want of room.
+fn is_full(made: Result<Made, Stopped>) -> bool
+    ensures { result ≡ eqb (stop_of made) 12 }
+{
+    match made {
+        Err(e) => e.why == Stop::Full,
+        Ok(_) => false,
+    }
+}
+
 // The rule in parts of the room, each wider, since a run clears as many work words as it may fill. What does not end with 12 in a part
 // ends alike with more room; else the whole room decides.
 fn run_rule(
@@ -179,7 +189,7 @@ fn run_rule(
     count: usize,
     roots: &[u32],
     rule: Rule,
-) -> Made
+) -> Result<Made, Stopped>
     requires { Space cap nodes.old work.old count × Good nodes.old count × Below roots.now count × FitsRule (length roots.now) rule }
     ensures { Came cap nodes.old count (comp_of (roots_of (trees nodes.old count) roots.now) rule) nodes.new work.new result }
 {
@@ -187,7 +197,7 @@ fn run_rule(
     let mut part = first_part(cap, count);
     while part < cap {
         let made = attempt(nodes, work, part, count, roots, rule);
-        if made.stop != 12 {
+        if !is_full(made) {
             return made;
         }
         part = wider_part(cap, part);
@@ -210,13 +220,19 @@ pub fn operate(
     ensures { Operated cap run.peak nodes.old run.count roots.old held to rule nodes.new work.new roots.new result }
 {
     let left = keep_roots(nodes, work, run.count, roots, held);
-    let made = run_rule(nodes, work, cap, left, &roots[..held], rule);
-    if made.stop == 0 {
-        roots[to] = made.at as u32;
-    }
-    Run {
-        stop: made.stop,
-        count: made.count,
-        peak: run.peak.max(made.count),
+    match run_rule(nodes, work, cap, left, &roots[..held], rule) {
+        Ok(made) => {
+            roots[to] = made.at as u32;
+            Run {
+                stop: 0,
+                count: made.count,
+                peak: run.peak.max(made.count),
+            }
+        }
+        Err(e) => Run {
+            stop: e.why.number(),
+            count: e.count,
+            peak: run.peak.max(e.count),
+        },
     }
 }

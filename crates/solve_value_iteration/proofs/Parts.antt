@@ -14,7 +14,7 @@ use Rattle.collect_rehash.specs.Rehash.{Rehashed}
 use Rattle.load_choose.specs.CommandTest.{load_rule}
 use Rattle.load_model.specs.ModelRoots.{Loads}
 use Rattle.load_model.specs.declared.Done.{Done}
-use Rattle.solve_operation.proofs.Parts.{more_room, stop_of, rehashed_table}
+use Rattle.solve_operation.proofs.Parts.{more_room, run_stop, rehashed_table}
 use Rattle.solve_value_iteration.specs.Iteration.{Brought}
 
 -- no nodes are good
@@ -60,16 +60,16 @@ module _ {cap part : ℕ} {l₀ l : List ℤ} {w₀ w R₀ R : List ℕ} (Y : Fi
   module _ {l' : List ℤ} {w' R' : List ℕ} (a : length l' ≡ length l) (b : length w' ≡ length w) where
     -- not 12: so with all the room
     pub part_loads : {B : List ℕ} {r : Done} → Brought B part l' w' R' r → (r.stop ≡ 12 → ⊥) → Brought B cap l' w' R' r
-    unfolding stop_of
+    unfolding run_stop
     part_loads {B} Q off = record {
       good = Q.good;
       space = roomy Y.space a b (omega (arith, Q.space.room, Y.within));
-      ran = λ z. ⊎_elim (λ e. absurd (let q : 0 ≡ 12 = ap stop_of (sym (Q.ran z) ∙ e) in omega arith)) (λ e. e ∙ Q.ran z) (more_room part cap Y.within (load B) []);
+      ran = λ z. ⊎_elim (λ e. absurd (let q : 0 ≡ 12 = ap run_stop (sym (Q.ran z) ∙ e) in omega arith)) (λ e. e ∙ Q.ran z) (more_room part cap Y.within (load B) []);
       below = Q.below;
       roots = Q.roots;
       end_below = Q.end_below;
       end_root = Q.end_root;
-      stops = λ z. ⊎_elim (λ e. absurd (off (ap stop_of (sym (Q.stops z) ∙ e)))) (λ e. e ∙ Q.stops z) (more_room part cap Y.within (load B) []);
+      stops = λ z. ⊎_elim (λ e. absurd (off (ap run_stop (sym (Q.stops z) ∙ e)))) (λ e. e ∙ Q.stops z) (more_room part cap Y.within (load B) []);
     }
 
     -- 12: a wider part next

@@ -11,8 +11,8 @@ use Rattle.whole.specs.LinearsLaws.{eq_list_true, eq_list_refl}
 pub use Rattle.whole.specs.LinearsLaws.{eq_ℤ_true, eq_ℤ_refl}
 use Rattle.table.specs.declared.Node.{Node}
 use mathlib.Core.List.{List}
-use Rattle.table.specs.declared.Made.{Made}
-use Rattle.table.specs.Table.{put_at, first_node, intern_answer, intern_words, eq_ℤ, eq_node, first_at, SameNode, same, other}
+use Rattle.table.specs.declared.Stop.TheVariants.{Full}
+use Rattle.table.specs.Table.{Answer, made, halted, put_at, first_node, intern_answer, intern_words, eq_ℤ, eq_node, first_at, SameNode, same, other}
 
 clash : {X : Type 0} → false ≡ true → X
 clash e = absurd (let z : ◌≡◌ {A = ℕ} 0 1 = cc in omega arith)
@@ -90,26 +90,26 @@ first_found p (suc n) i q e h = ⊎_elim (λ r. below (first_found p n i r e h) 
 -- the three outcomes of a look-up or append, r being the index that the scan found
 module _ (cap : ℕ) (l : List ℤ) (n : ℕ) (x : Node) (r : ℕ) (e : r ≡ first_node l x n) where
   -- by what the two tests say: the node is there, and there is room for it
-  abbrev answer : Bool → Bool → Made
-  answer a b = cond a (record { stop = 0; at = first_node l x n; count = n }) (cond b (record { stop = 0; at = n; count = n + 1 }) (record { stop = 12; at = 0; count = n }))
+  abbrev answer : Bool → Bool → Answer
+  answer a b = cond a (made (first_node l x n) n) (cond b (made n (n + 1)) (halted Full n))
 
   abbrev written : Bool → Bool → List ℤ
   written a b = cond a l (cond b (put_at l n x) l)
 
-  pub intern_old : r < n → (◌≡◌ {A = Made} (record { stop = 0; at = r; count = n }) (intern_answer cap l n x)) × (l ≡ intern_words cap l n x)
+  pub intern_old : r < n → (◌≡◌ {A = Answer} (made r n) (intern_answer cap l n x)) × (l ≡ intern_words cap l n x)
   unfolding intern_answer intern_words
   intern_old h =
       let t : ltb (first_node l x n) n ≡ true = lt-ltb (first_node l x n) n (omega arith) in
-      (rw t (λ i. record { stop = 0; at = e i; count = n }), rw t)
+      (rw t (λ i. made (e i) n), rw t)
 
-  pub intern_new : n ≤ r → n < cap → (◌≡◌ {A = Made} (record { stop = 0; at = n; count = n + 1 }) (intern_answer cap l n x)) × (put_at l n x ≡ intern_words cap l n x)
+  pub intern_new : n ≤ r → n < cap → (◌≡◌ {A = Answer} (made n (n + 1)) (intern_answer cap l n x)) × (put_at l n x ≡ intern_words cap l n x)
   unfolding intern_answer intern_words
   intern_new h k =
       let t : ltb (first_node l x n) n ≡ false = le-ltb (first_node l x n) n (omega arith) in
       let u : ltb n cap ≡ true = lt-ltb n cap k in
       (sym (λ i. answer (t i) (u i)), sym (λ i. written (t i) (u i)))
 
-  pub intern_full : n ≤ r → cap ≤ n → (◌≡◌ {A = Made} (record { stop = 12; at = 0; count = n }) (intern_answer cap l n x)) × (l ≡ intern_words cap l n x)
+  pub intern_full : n ≤ r → cap ≤ n → (◌≡◌ {A = Answer} (halted Full n) (intern_answer cap l n x)) × (l ≡ intern_words cap l n x)
   unfolding intern_answer intern_words
   intern_full h k =
       let t : ltb (first_node l x n) n ≡ false = le-ltb (first_node l x n) n (omega arith) in

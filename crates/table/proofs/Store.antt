@@ -1,18 +1,20 @@
 -- What is read of a node, and what a store of a node leaves.
 use mathlib.Core.Path.{◌≡◌, refl, sym, ap, ap₂, ◌∙◌}
-use mathlib.Core.List.{List, [], ◌∷◌}
+use mathlib.Core.List.{List, [], ◌∷◌, ◌++◌, append_assoc}
 use Prim.Native.Nat.{ℕ, zero, suc, ◌+◌, ◌*◌, ◌-◌, ◌≤◌, ◌<◌, min}
 use native.Mathlib.Nat.{le_of_suc-le-suc, not-suc-le-zero, add-zero}
-use native.Mathlib.Numerals.{add-one}
 use native.Mathlib.Omega.{arith}
 use mathlib.Core.Bool.{Bool, true, false}
 use borrow.Author.Tests.{ltb-true, ltb-false}
 use lib.Dec.{ltb}
 use lib.IntN.{ℤ, pos}
 use lib.ListN.{get_or, set, length, take, drop, length-set, length-take, length-drop}
-use lib.Seq.{get_or-set_same, get_or-set_other, length-take-le, take_all, ext_get_or, get_or-take, get_or-drop}
+use lib.Seq.{get_or-set_same, get_or-set_other, length-take-le, ext_get_or, get_or-take, get_or-drop, drop-drop}
 use Rattle.whole.specs.Linears.{numbers}
-use Rattle.whole.proofs.Filled.{Filled, all_filled}
+use borrow.Rule.Slice.PartMut.{put_mid}
+use Rattle.std.specs.List.{between}
+use Rattle.std.proofs.Math.Seq.{take-suc-set}
+use Rattle.std.proofs.lemmas.List.{drop-set-lt, take-append-drop}
 use Rattle.table.specs.declared.Node.{Node}
 use Rattle.table.specs.Table.{node_words, high_word, low_word, node_at, put_at, store_list}
 
@@ -186,48 +188,31 @@ module _ (l : List ℤ) (n : ℕ) (x : Node) where
 
 -- ---- as the code does it
 
--- the numbers that were read
-pub read_all : (l : List ℤ) (i : ℕ) → i * node_words + node_words ≤ length l → {k : ℕ} {out : List ℤ} → Filled numbers (λ j. get_or l (i * node_words + 1 + j) (pos 0)) k out → numbers ≤ k → out ≡ (node_at l i).n
-read_all l i h F q = all_filled (node_at l i).n F q (numbers_at l i h) (number_at l i)
-
--- the first k of the numbers s stand in the words, from `at` on
-pub record Storing (l₀ : List ℤ) (at : ℕ) (s : List ℤ) (k : ℕ) (l : List ℤ) : Type 0 where
-  pub upto : k ≤ numbers
-  pub long : length s ≡ numbers
-  pub is : l ≡ store_list l₀ at (take k s)
-  pub len : length l ≡ length l₀
-
-pub none_stored : (l : List ℤ) (at : ℕ) (s : List ℤ) → length s ≡ numbers → Storing l at s 0 l
+-- a part of the words that is written over
+pub put_mid_is : (l : List ℤ) (at : ℕ) (s : List ℤ) → at + length s ≤ length l → put_mid at (length s) l s ≡ store_list l at s
 unfolding store_list
-none_stored l at s e = record { upto = omega arith; long = e; is = refl; len = refl }
+put_mid_is l at [] h = take-append-drop at l
+put_mid_is l at (z ∷ s) h =
+    let t : take (suc at) (set l at z) ≡ take at l ++ (z ∷ []) = take-suc-set l at z (omega arith) in
+    let d : drop (suc at) (set l at z) ≡ drop (suc at) l = drop-set-lt (suc at) l at z (omega arith) in
+    let e : drop (suc (length s)) (drop at l) ≡ drop (length s) (drop (suc at) l) = drop-drop (suc (length s)) at l ∙ (ap (λ (k : ℕ). drop k l) (omega arith) ∙ sym (drop-drop (length s) (suc at) l)) in
+    let r : put_mid (suc at) (length s) (set l at z) s ≡ (take at l ++ (z ∷ [])) ++ (s ++ drop (length s) (drop (suc at) l)) = ap₂ (λ (a b : List ℤ). a ++ (s ++ drop (length s) b)) t d in
+    ap (λ (b : List ℤ). take at l ++ ((z ∷ s) ++ b)) e ∙ (sym (append_assoc (take at l) (z ∷ []) (s ++ drop (length s) (drop (suc at) l))) ∙ (sym r ∙ put_mid_is (set l at z) (suc at) s (let w = length-set l at z in omega arith)))
 
-pub one_stored : {l₀ : List ℤ} {at : ℕ} {s : List ℤ} {k : ℕ} {l : List ℤ} {z : ℤ} → Storing l₀ at s k l → k < numbers → z ≡ get_or s k (pos 0) → Storing l₀ at s (k + 1) (set l (at + k) z)
-one_stored {l₀} {at} {s} {k} {l} {z} S h e = record {
-  upto = omega arith;
-  long = S.long;
-  is = ap₂ (λ (m : List ℤ) (v : ℤ). set m (at + k) v) S.is e ∙ (store_more l₀ at s k (let w = S.long in omega arith) ∙ ap (λ (j : ℕ). store_list l₀ at (take j s)) (sym (add-one k)));
-  len = length-set l (at + k) z ∙ S.len;
-}
-
-pub all_stored : {l₀ : List ℤ} {at : ℕ} {s : List ℤ} {k : ℕ} {l : List ℤ} → Storing l₀ at s k l → numbers ≤ k → l ≡ store_list l₀ at s
-all_stored {l₀} {at} {s} {k} S h = S.is ∙ ap (store_list l₀ at) (take_all k s (let w = S.long in omega arith))
-
--- the four stores
-pub put_as : (l : List ℤ) (i : ℕ) (x : Node) {a c d : ℤ} {k : ℕ} {l₂ : List ℤ} → a ≡ x.kind → c ≡ x.high → d ≡ x.low → Storing (set l (i * node_words) a)
-    (i * node_words + 1) x.n k l₂ → numbers ≤ k → set (set l₂ (i * node_words + high_word) c) (i * node_words + low_word) d ≡ put_at l i x
+-- the stores of a node
+pub put_as : (l : List ℤ) (i : ℕ) (x : Node) {a c d : ℤ} {s : List ℤ} → i * node_words + node_words ≤ length l → length x.n ≡ numbers → a ≡ x.kind → c ≡ x.high → d ≡ x.low → s ≡ x.n
+    → set (set (put_mid (i * node_words + 1) (i * node_words + high_word - (i * node_words + 1)) (set l (i * node_words) a) s) (i * node_words + high_word) c) (i * node_words + low_word) d ≡ put_at l i x
 unfolding put_at
-put_as l i x {a} {c} {d} ea ec ed S h = λ j. set (set ((all_stored S h ∙ ap (λ (z : ℤ). store_list (set l (i * node_words) z) (i * node_words + 1) x.n) ea) j) (i * node_words + high_word) (ec j)) (i * node_words + low_word) (ed j)
+put_as l i x {a} {c} {d} {s} h e ea ec ed es =
+    let n : i * node_words + high_word - (i * node_words + 1) ≡ length x.n = omega arith in
+    let m : put_mid (i * node_words + 1) (i * node_words + high_word - (i * node_words + 1)) (set l (i * node_words) a) s ≡ store_list (set l (i * node_words) x.kind) (i * node_words + 1) x.n =
+    (λ j. put_mid (i * node_words + 1) (n j) (set l (i * node_words) (ea j)) (es j)) ∙ put_mid_is (set l (i * node_words) x.kind) (i * node_words + 1) x.n (let w = length-set l (i * node_words) x.kind in omega arith) in
+    λ j. set (set (m j) (i * node_words + high_word) (ec j)) (i * node_words + low_word) (ed j)
 
 -- what was read of a node
-pub get_as : (l : List ℤ) (i : ℕ) → i * node_words + node_words ≤ length l → {a c d : ℤ} {k : ℕ} {out : List ℤ} → a ≡ get_or l (i * node_words) (pos 0) → c ≡ get_or l
-    (i * node_words + high_word) (pos 0) → d ≡ get_or l (i * node_words + low_word) (pos 0) → Filled numbers (λ j. get_or l (i * node_words + 1 + j) (pos 0)) k out
-    → numbers ≤ k → ◌≡◌ {A = Node} (record { kind = a; n = out; high = c; low = d }) (node_at l i)
+pub get_as : (l : List ℤ) (i : ℕ) {a c d : ℤ} {s : List ℤ} → a ≡ get_or l (i * node_words) (pos 0) → c ≡ get_or l (i * node_words + high_word) (pos 0)
+    → d ≡ get_or l (i * node_words + low_word) (pos 0) → s ≡ between (i * node_words + 1) (i * node_words + high_word) l → ◌≡◌ {A = Node} (record { kind = a; n = s; high = c; low = d }) (node_at l i)
 unfolding node_at
-get_as l i h ea ec ed F q = λ j. record { kind = ea j; n = read_all l i h F q j; high = ec j; low = ed j }
-
--- the length after the first store and the loop, and after two stores more
-pub storing_length : (l : List ℤ) (j : ℕ) (v : ℤ) {at : ℕ} {s : List ℤ} {k : ℕ} {l₂ : List ℤ} → Storing (set l j v) at s k l₂ → length l₂ ≡ length l
-storing_length l j v S = S.len ∙ length-set l j v
-
-pub two_more : (l l₂ : List ℤ) (i j : ℕ) (c d : ℤ) → length l₂ ≡ length l → length (set (set l₂ i c) j d) ≡ length l
-two_more l l₂ i j c d e = length-set (set l₂ i c) j d ∙ (length-set l₂ i c ∙ e)
+get_as l i ea ec ed es =
+    let n : i * node_words + high_word - (i * node_words + 1) ≡ numbers = omega arith in
+    λ j. record { kind = ea j; n = (es ∙ ap (λ (k : ℕ). take k (drop (i * node_words + 1) l)) n) j; high = ec j; low = ed j }

@@ -1,6 +1,11 @@
 -- A node's words: what is read back from the bits, and equality.
-use mathlib.Core.Path.{◌≡◌, sym, ap, ◌∙◌}
-use mathlib.Core.Bool.{Bool, true, false}
+use mathlib.Core.Path.{◌≡◌, refl, sym, ap, ◌∙◌}
+use mathlib.Core.Bool.{Bool, true, false, ◌&&◌}
+use lib.Pointwise.{pointwise}
+use Rattle.std.specs.Bool.{Decides}
+use Rattle.std.specs.Ordering.{int_eq}
+use Rattle.std.specs.Cmp.Rules.{signed_items}
+use Rattle.std.proofs.lemmas.Bool.Decides.{Decides-at, Decides-and, Decides-int_eq}
 use Prim.Native.Nat.{ℕ, ◌^◌, ◌<◌}
 use native.Mathlib.Omega.{arith}
 use lib.IntN.{ℤ, pos}
@@ -10,8 +15,7 @@ use lib.Signed.{mag}
 use mir.Syntax.{w64}
 use mir.Val.{to_z, of_z}
 use mir.ValLaws.{to_z-of_z}
-use Rattle.whole.specs.Linears.{numbers, eq_list}
-use Rattle.whole.specs.LinearsLaws.{eq_list_true, eq_list_refl}
+use Rattle.whole.specs.Linears.{numbers}
 use Rattle.table.specs.declared.Node.{Node}
 use Rattle.table.specs.Table.{SameNode, same, other}
 
@@ -31,20 +35,17 @@ pub record Fit (x : Node) : Type 0 where
   pub high : mag x.high < 2 ^ 63
   pub low : mag x.low < 2 ^ 63
 
--- equal bits in kind, high and low, and the test of the numbers
-pub bits_same : (x y : Node) {r : Bool} → mag x.kind < 2 ^ 63 → mag y.kind < 2 ^ 63 → mag x.high < 2 ^ 63 → mag y.high < 2 ^ 63 → mag x.low < 2 ^ 63 → mag
-    y.low < 2 ^ 63 → of_z w64 x.kind ≡ of_z w64 y.kind → of_z w64 x.high ≡ of_z w64 y.high → of_z w64 x.low ≡ of_z w64 y.low → r ≡ eq_list x.n y.n
-    → SameNode x y r
-bits_same x y {r} fk gk fh gh fl gl ek eh el e = go r e
+-- what the derived test of equality answers
+pub same_as : (x y : Node) {r : Bool} → r ≡ (int_eq x.kind y.kind && (pointwise int_eq x.n y.n && (int_eq x.high y.high && int_eq x.low y.low))) → SameNode x y r
+same_as x y {r} e = go r refl
   where
-    go : (r : Bool) → r ≡ eq_list x.n y.n → SameNode x y r
-    go true e = same (λ i. record {
-      kind = same_bits x.kind y.kind fk gk ek i;
-      n = eq_list_true x.n y.n (sym e) i;
-      high = same_bits x.high y.high fh gh eh i;
-      low = same_bits x.low y.low fl gl el i;
-    })
-    go false e = other (λ d. absurd (let z : ◌≡◌ {A = Bool} false true = e ∙ (ap (λ (w : Node). eq_list x.n w.n) (sym d) ∙ eq_list_refl x.n) in let y : ◌≡◌ {A = ℕ} 0 1 = cc in omega arith))
+    told : Decides r ((x.kind ≡ y.kind) × ((x.n ≡ y.n) × ((x.high ≡ y.high) × (x.low ≡ y.low))))
+    told = Decides-at r _ e (Decides-and _ _ (Decides-int_eq x.kind y.kind) (Decides-and _ _ (signed_items x.n y.n) (Decides-and _ _ (Decides-int_eq x.high y.high) (Decides-int_eq x.low y.low))))
+
+    go : (b : Bool) → r ≡ b → SameNode x y b
+    go true t = let p = told.0 t in same (λ i. record { kind = p.0 i; n = p.1.0 i; high = p.1.1.0 i; low = p.1.1.1 i })
+    go false t = other (λ q. let y = told.1 (ap (λ (z : Node). z.kind) q, (ap (λ (z : Node). z.n) q, (ap (λ (z : Node). z.high) q, ap (λ (z : Node). z.low) q))) in
+        let z : ◌≡◌ {A = Bool} false true = sym t ∙ y in absurd (let z : ◌≡◌ {A = ℕ} 0 1 = cc in omega arith))
 
 -- the length of a node's numbers, as owning the node tells it
 pub as_long : (l : List ℤ) → length (map (λ (z : ℤ). z) l) ≡ numbers → length l ≡ numbers

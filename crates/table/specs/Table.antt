@@ -3,7 +3,11 @@ use Rattle.std.specs.Prelude.{◌≡◌, Bool, true, false, cond, ◌&&◌, ◌|
 use Rattle.whole.specs.Linears.{numbers, eq_list}
 unfoldable pub use Rattle.whole.specs.Linears.{eq_ℤ}
 use Rattle.table.specs.declared.Node.{Node}
+use Rattle.std.specs.Prelude.{Result, Ok, Err}
 use Rattle.table.specs.declared.Made.{Made}
+use Rattle.table.specs.declared.Stop.{Stop}
+use Rattle.table.specs.declared.Stop.TheVariants.{Full, Over}
+use Rattle.table.specs.declared.Stopped.{Stopped}
 
 -- a node's words: its kind, its numbers, and high and low behind them
 abbrev pub node_words : ℕ
@@ -61,12 +65,45 @@ first_at p (suc n) = cond (ltb (first_at p n) n) (first_at p n) (cond (p n) n (s
 unfoldable pub first_node : List ℤ → Node → ℕ → ℕ
 first_node l x n = first_at (λ i. eq_node (node_at l i) x) n
 
+-- ---- what a look-up, an append or a rule answers
+
+-- 12 where the table is full, 11 where a rule names a number outside its limits
+abbrev pub stop_number : Stop → ℕ
+stop_number Full = 12
+stop_number Over = 11
+
+abbrev pub Answer : Type 0
+Answer = Result Made Stopped
+
+-- the node at index i, in a table that then has n nodes
+abbrev pub made : ℕ → ℕ → Answer
+made i n = Ok (record { at = i; count = n })
+
+-- it stopped, in a table that then has n nodes
+abbrev pub halted : Stop → ℕ → Answer
+halted w n = Err (record { why = w; count = n })
+
+-- what stopped it, or 0
+abbrev pub stop_of : Answer → ℕ
+stop_of (Ok m) = 0
+stop_of (Err s) = stop_number s.why
+
+-- the index, or 0
+abbrev pub at_of : Answer → ℕ
+at_of (Ok m) = m.at
+at_of (Err s) = 0
+
+-- how many nodes the table then has
+abbrev pub count_of : Answer → ℕ
+count_of (Ok m) = m.count
+count_of (Err s) = s.count
+
 -- what a look-up or append answers, and the words after it, in a table of n nodes with room for cap
-unfoldable pub intern_answer : ℕ → List ℤ → ℕ → Node → Made
+unfoldable pub intern_answer : ℕ → List ℤ → ℕ → Node → Answer
 intern_answer cap l n x =
     cond (ltb (first_node l x n) n)
-    (record { stop = 0; at = first_node l x n; count = n })
-    (cond (ltb n cap) (record { stop = 0; at = n; count = n + 1 }) (record { stop = 12; at = 0; count = n }))
+    (made (first_node l x n) n)
+    (cond (ltb n cap) (made n (n + 1)) (halted Full n))
 
 unfoldable pub intern_words : ℕ → List ℤ → ℕ → Node → List ℤ
 intern_words cap l n x = cond (ltb (first_node l x n) n) l (cond (ltb n cap) (put_at l n x) l)

@@ -2,7 +2,7 @@
 #![tactic(auto)]
 
 ghost use Rattle.std.specs.Prelude.{◌≡◌, ◌+◌, ◌*◌, ◌≤◌, length};
-ghost use Rattle.table.specs.Table.{node_words, node_at, put_at, SameNode, is_leaf, is_none};
+ghost use Rattle.table.specs.Table.{node_words, node_at, put_at, SameNode, is_leaf, is_none, stop_number};
 
 use whole::{COEFFICIENTS, NUMBERS};
 
@@ -16,13 +16,16 @@ pub const HIGH: usize = NUMBERS + 1;
 
 pub const LOW: usize = NUMBERS + 2;
 
+// The kind of a leaf with a linear.
+pub const LEAF: i64 = 0;
+
 // The kind of the leaf "none".
 pub const NONE: i64 = 3;
 
 // Kind 0 is a leaf: its linear, the constant as the last number, its action as high, 0 as low. Kind 1 is a condition,
 // its number as the first and zeros after; kind 2 is a test, its linear; both with the indexes of their branches. Kind 3
 // is the leaf "none", zeros after.
-#[derive(Clone, Copy)]
+#[derive(Clone, Copy, PartialEq, Eq)]
 pub struct Node {
     pub kind: i64,
     pub n: [i64; NUMBERS],
@@ -30,23 +33,46 @@ pub struct Node {
     pub low: i64,
 }
 
-// What a look-up, an append or a rule answers: stop is 0, 12 where the table is full, or 11 where a rule names a number
-// outside its limits.
+// What a look-up, an append or a rule came to: a node's index, and how many nodes the table then has.
 #[derive(Clone, Copy)]
 pub struct Made {
-    pub stop: usize,
     pub at: usize,
     pub count: usize,
+}
+
+// Why one stops.
+#[derive(Clone, Copy, PartialEq, Eq)]
+pub enum Stop {
+    // The table is full.
+    Full,
+    // A rule names a number outside its limits.
+    Over,
+}
+
+// What stopped it, and how many nodes the table then has.
+#[derive(Clone, Copy)]
+pub struct Stopped {
+    pub why: Stop,
+    pub count: usize,
+}
+
+impl Stop {
+    // The number that callers from outside are told.
+    pub fn number(self) -> usize
+        ensures { result ≡ stop_number self }
+    {
+        match self {
+            Stop::Full => 12,
+            Stop::Over => 11,
+        }
+    }
 }
 
 // Whether a node of this kind ends a diagram.
 pub fn is_leaf(kind: i64) -> bool
     ensures { result ≡ is_leaf kind }
 {
-    if kind == 0 {
-        return true;
-    }
-    kind == NONE
+    kind == LEAF || kind == NONE
 }
 
 // Whether the node at index i is the leaf "none".
@@ -54,8 +80,7 @@ pub fn none_at(nodes: &[i64], i: usize) -> bool
     requires { i * node_words + node_words ≤ length nodes.now }
     ensures { result ≡ is_none (node_at nodes.now i).kind }
 {
-    let kind = nodes[i * NODE_WORDS];
-    kind == NONE
+    nodes[i * NODE_WORDS] == NONE
 }
 
 // The node at index i.
@@ -64,17 +89,14 @@ pub fn get(nodes: &[i64], i: usize) -> Node
     ensures { result ≡ node_at nodes.now i }
 {
     let at = i * NODE_WORDS;
-    let mut n = [0i64; NUMBERS];
-    let mut k: usize = 0;
-    while k < NUMBERS {
-        let z = nodes[at + 1 + k];
-        n[k] = z;
-        k += 1;
+    let mut n = [0; NUMBERS];
+    n.copy_from_slice(&nodes[at + 1..at + HIGH]);
+    Node {
+        kind: nodes[at],
+        n,
+        high: nodes[at + HIGH],
+        low: nodes[at + LOW],
     }
-    let kind = nodes[at];
-    let high = nodes[at + HIGH];
-    let low = nodes[at + LOW];
-    Node { kind, n, high, low }
 }
 
 // Stores a node at index i.
@@ -83,37 +105,17 @@ pub fn put(nodes: &mut [i64], i: usize, x: Node)
     ensures { nodes.new ≡ put_at nodes.old i x }
 {
     let at = i * NODE_WORDS;
-    let kind = x.kind;
-    let n = x.n;
-    let high = x.high;
-    let low = x.low;
-    nodes[at] = kind;
-    let mut k: usize = 0;
-    while k < NUMBERS {
-        let z = n[k];
-        nodes[at + 1 + k] = z;
-        k += 1;
-    }
-    nodes[at + HIGH] = high;
-    nodes[at + LOW] = low;
+    nodes[at] = x.kind;
+    nodes[at + 1..at + HIGH].copy_from_slice(&x.n);
+    nodes[at + HIGH] = x.high;
+    nodes[at + LOW] = x.low;
 }
 
 // Whether two nodes are equal, word by word.
 pub fn same(x: Node, y: Node) -> bool
     ensures { SameNode x y result }
 {
-    if x.kind != y.kind {
-        return false;
-    }
-    if x.high != y.high {
-        return false;
-    }
-    if x.low != y.low {
-        return false;
-    }
-    let a = x.n;
-    let b = y.n;
-    whole::linears::equal(a, b)
+    x == y
 }
 
 // Whether the node at index i is x: the words that differ most often are compared first, before all are read.
@@ -122,14 +124,7 @@ pub fn is_at(nodes: &[i64], i: usize, x: Node) -> bool
     ensures { SameNode (node_at nodes.now i) x result }
 {
     let at = i * NODE_WORDS;
-    let low = nodes[at + LOW];
-    if low != x.low {
-        return false;
-    }
-    let n = x.n;
-    let last = n[COEFFICIENTS];
-    let constant = nodes[at + 1 + COEFFICIENTS];
-    if constant != last {
+    if nodes[at + LOW] != x.low || nodes[at + 1 + COEFFICIENTS] != x.n[COEFFICIENTS] {
         return false;
     }
     same(get(nodes, i), x)

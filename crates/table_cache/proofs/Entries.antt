@@ -1,13 +1,13 @@
 -- The cache's entries: their places, read and stored.
-use mathlib.Core.Path.{◌≡◌, refl, ap, ◌∙◌, subst}
+use mathlib.Core.Path.{◌≡◌, refl, ◌∙◌}
 use mathlib.Core.Logic.{⊎_elim, ◌⊎◌}
 use mathlib.Core.List.{List}
-use Prim.Native.Nat.{ℕ, ◌+◌, ◌-◌, ◌*◌, ◌%◌, ◌≤◌, ◌<◌}
+use Prim.Native.Nat.{ℕ, ◌+◌, ◌*◌, ◌%◌, ◌≤◌, ◌<◌}
 use native.Mathlib.Nat.{mod-lt}
 use native.Mathlib.Omega.{arith}
 use lib.ListN.{length, get_or, set, length-set}
 use lib.Seq.{get_or-set_same, get_or-set_other}
-use Rattle.table_cache.specs.Cache.{slot_of, CacheEntry, store_of}
+use Rattle.table_cache.specs.Cache.{slot_of, store_of}
 
 -- ---- places
 
@@ -17,13 +17,6 @@ slot_at cap op f g p q h = ((op * 7919 + f + g * 1009 + p * 263 + q) % cap, mod-
 
 pub slot_lt : (cap op f g p q : ℕ) → 0 < cap → slot_of cap op f g p q + 6 ≤ cap * 8
 slot_lt cap op f g p q h = let a = slot_at cap op f g p q h in let b = a.1 in let e = a.2 in omega arith
-
--- what the code reads is an entry
-pub entry_is : {w : List ℕ} {s t op f g p q : ℕ} → s ≡ t → get_or w s 0 ≡ op → get_or w (s + 1) 0 ≡ f → get_or w (s + 2) 0 ≡ g → get_or w (s + 2 + 1) 0 ≡ p → get_or w (s + 4) 0 ≡ q
-    → (get_or w (s + 5) 0 ≡ 0 → ⊥) → CacheEntry w t op f g p q (get_or w (s + 5) 0 - 1)
-entry_is {w} {s} {t} {op} {f} {g} {p} {q} e a b c d k z =
-    let h : s + 3 ≡ s + 2 + 1 = omega arith in
-    subst (λ (t : ℕ). CacheEntry w t op f g p q (get_or w (s + 5) 0 - 1)) e (record { is_op = a; is_f = b; is_g = c; is_p = ap (λ (j : ℕ). get_or w j 0) h ∙ d; is_q = k; full = omega arith })
 
 -- ---- a store
 

@@ -1,7 +1,7 @@
 // The computed cache: results kept by rule and operands, each in one place, the last one only.
 #![tactic(auto)]
 
-ghost use Rattle.std.specs.Prelude.{◌≡◌, false, ◌+◌, ◌-◌, ◌*◌, ◌≤◌, ◌<◌, length, get_or};
+ghost use Rattle.std.specs.Prelude.{◌≡◌, false, ◌+◌, ◌-◌, ◌*◌, ◌≤◌, ◌<◌, length, get_or, IfSome};
 ghost use Rattle.table_cache.specs.Cache.{slot_of, Key, WorkRoom, CacheEntry, store_of};
 
 // The place of the entry for a rule's five words. Neighbours of f are neighbours there: a walk over a diagram stays near.
@@ -17,31 +17,27 @@ fn differ(work: &[u32], at: usize, a: usize, b: usize) -> bool
     requires { at + 2 ≤ length work.now }
     ensures { result ≡ false → (get_or work.now at 0 ≡ a) × (get_or work.now (at + 1) 0 ≡ b) }
 {
-    if work[at] as usize != a {
-        return true;
-    }
-    if work[at + 1] as usize != b {
-        return true;
-    }
-    false
+    work[at] as usize != a || work[at + 1] as usize != b
 }
 
-// One more than the result kept for a rule's five words, or 0.
-pub fn look(work: &[u32], cap: usize, op: usize, f: usize, g: usize, p: usize, q: usize) -> usize
+// The result kept for a rule's five words.
+pub fn look(
+    work: &[u32],
+    cap: usize,
+    op: usize,
+    f: usize,
+    g: usize,
+    p: usize,
+    q: usize,
+) -> Option<usize>
     requires { WorkRoom cap work.now × Key op f g p q }
-    ensures { (result ≡ 0 → ⊥) → CacheEntry work.now (slot_of cap op f g p q) op f g p q (result - 1) }
+    ensures { IfSome result (CacheEntry work.now (slot_of cap op f g p q) op f g p q) }
 {
     let at = slot(cap, op, f, g, p, q);
-    if differ(work, at, op, f) {
-        return 0;
+    if differ(work, at, op, f) || differ(work, at + 2, g, p) || work[at + 4] as usize != q {
+        return None;
     }
-    if differ(work, at + 2, g, p) {
-        return 0;
-    }
-    if work[at + 4] as usize != q {
-        return 0;
-    }
-    work[at + 5] as usize
+    (work[at + 5] as usize).checked_sub(1)
 }
 
 // Keeps a result, in the place of whatever was there.

@@ -11,9 +11,5 @@ pub fn work(words: &mut [u32], from: usize, to: usize)
     requires { (from ≤ to) × (to ≤ length words.old) }
     ensures { words.new ≡ wiped 0 from to words.old }
 {
-    let mut i = from;
-    while i < to {
-        words[i] = 0;
-        i += 1;
-    }
+    words[from..to].fill(0);
 }

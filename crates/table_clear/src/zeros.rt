@@ -6,11 +6,7 @@ pub fn nodes_from(nodes: &mut [i64], from: usize)
     requires { from ≤ length nodes.old }
     ensures { nodes.new ≡ take from nodes.old ++ replicate (length nodes.old - from) (pos 0) }
 {
-    let mut i = from;
-    while i < nodes.len() {
-        nodes[i] = 0;
-        i += 1;
-    }
+    nodes[from..].fill(0);
 }
 
 // Work or stage words from `from` on.
@@ -18,5 +14,5 @@ pub fn words_from(words: &mut [u32], from: usize)
     requires { from ≤ length words.old }
     ensures { words.new ≡ take from words.old ++ replicate (length words.old - from) 0 }
 {
-    super::work(words, from, words.len())
+    words[from..].fill(0);
 }

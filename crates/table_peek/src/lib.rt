@@ -37,12 +37,9 @@ pub fn renumbered(work: &[u32], cap: usize, x: Node) -> Node
     if is_leaf(x) {
         return x;
     }
-    let h = cap + high(x);
-    let l = cap + low(x);
-    let p = work[h] as i64;
-    let q = work[l] as i64;
-    let mut y = x;
-    y.high = p;
-    y.low = q;
-    y
+    Node {
+        high: i64::from(work[cap + high(x)]),
+        low: i64::from(work[cap + low(x)]),
+        ..x
+    }
 }

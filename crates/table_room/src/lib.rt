@@ -7,15 +7,9 @@ ghost use Rattle.theory.specs.Solve.{room as room_of};
 use table::{NODE_WORDS, NODES_MOST};
 use table_unique::WORK_WORDS;
 
-fn least(a: usize, b: usize) -> usize
-    ensures { result ≡ min a b }
-{
-    if a < b { a } else { b }
-}
-
 // "the least of node words ÷ 12, work words ÷ 8 and 65,535"
 pub fn room(nodes: usize, work: usize) -> usize
     ensures { result ≡ room_of nodes work }
 {
-    least(nodes / NODE_WORDS, least(work / WORK_WORDS, NODES_MOST))
+    (nodes / NODE_WORDS).min((work / WORK_WORDS).min(NODES_MOST))
 }

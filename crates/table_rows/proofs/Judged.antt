@@ -4,10 +4,10 @@ use mathlib.Core.Bool.{Bool, true, false, ◌&&◌}
 use mathlib.Core.List.{[], ◌∷◌}
 use Prim.Native.Nat.{ℕ, ◌^◌, ◌<◌}
 use native.Mathlib.Omega.{arith}
-use borrow.Author.Tests.{ltb-true, ltb-false, le-leb, lt-leb}
+use borrow.Author.Tests.{ltb-true}
 use lib.Dec.{eqb, leb, eqb-suc-zero}
 use lib.IntN.{ℤ, pos, negsuc, nat_abs}
-use lib.Signed.{mag, lt_z}
+use lib.Signed.{mag, lt_z, le_z}
 use Rattle.whole.specs.Within.{limit, small}
 use Rattle.whole.proofs.Signed.{R, back}
 use Rattle.theory.specs.Diagram.{zeros}
@@ -35,14 +35,14 @@ zero_by (pos n) = sym (and_true (eqb n 0))
 zero_by (negsuc n) = eqb-suc-zero n
 
 -- 1 to n: not below 1, and the magnitude at most n
-among_by : (n : ℕ) (v : ℤ) (k : ℕ) → k ≡ nat_abs v → lt_z v (pos 1) ≡ false → leb k n ≡ among_ℤ n v
+among_by : (n : ℕ) (v : ℤ) (k : ℕ) → k ≡ nat_abs v → le_z (pos 1) v ≡ true → leb k n ≡ among_ℤ n v
 unfolding among_ℤ
-among_by n (pos v) k e t = ap (λ (j : ℕ). leb j n) e ∙ ap (λ (b : Bool). b && leb v n) (sym (le-leb 1 v (ltb-false v 1 t)))
-among_by n (negsuc v) k e t = clash (sym t)
+among_by n (pos v) k e t = ap (λ (j : ℕ). leb j n) e ∙ ap (λ (b : Bool). b && leb v n) (sym t)
+among_by n (negsuc v) k e t = clash t
 
-below : (n : ℕ) (v : ℤ) → lt_z v (pos 1) ≡ true → false ≡ among_ℤ n v
+below : (n : ℕ) (v : ℤ) → le_z (pos 1) v ≡ false → false ≡ among_ℤ n v
 unfolding among_ℤ
-below n (pos v) t = ap (λ (b : Bool). b && leb v n) (sym (lt-leb 1 v (ltb-true v 1 t)))
+below n (pos v) t = ap (λ (b : Bool). b && leb v n) (sym t)
 below n (negsuc v) t = refl
 
 -- no kind is below 0
@@ -71,15 +71,15 @@ module _ {z v : ℤ} {k : ℕ} (e : z ≡ v) (f : mag z < 2 ^ 63) (m : k ≡ nat
   pub zero_is : eqb k 0 ≡ zeros (v ∷ [])
   zero_is = ap (λ (j : ℕ). eqb j 0) magnitude_is ∙ zero_by v
 
-  pub among_is : (n : ℕ) → lt_z (R z) (pos 1) ≡ false → leb k n ≡ among_ℤ n v
-  among_is n t = among_by n v k magnitude_is (ap (λ (y : ℤ). lt_z y (pos 1)) (sym (read_is e f)) ∙ t)
+  pub among_is : (n : ℕ) → le_z (pos 1) (R z) ≡ true → leb k n ≡ among_ℤ n v
+  among_is n t = among_by n v k magnitude_is (ap (le_z (pos 1)) (sym (read_is e f)) ∙ t)
 
   pub kind_is : lt_z (R z) (pos 0) ≡ false → k ≡ kind_number v
   kind_is t = kind_by v k magnitude_is (ap (λ (y : ℤ). lt_z y (pos 0)) (sym (read_is e f)) ∙ t)
 
 module _ {z v : ℤ} (e : z ≡ v) (f : mag z < 2 ^ 63) where
-  pub among_below : (n : ℕ) → lt_z (R z) (pos 1) ≡ true → false ≡ among_ℤ n v
-  among_below n t = below n v (ap (λ (y : ℤ). lt_z y (pos 1)) (sym (read_is e f)) ∙ t)
+  pub among_below : (n : ℕ) → le_z (pos 1) (R z) ≡ false → false ≡ among_ℤ n v
+  among_below n t = below n v (ap (le_z (pos 1)) (sym (read_is e f)) ∙ t)
 
   pub kind_below : lt_z (R z) (pos 0) ≡ true → 4 ≡ kind_number v
   kind_below t = none v (ap (λ (y : ℤ). lt_z y (pos 0)) (sym (read_is e f)) ∙ t)

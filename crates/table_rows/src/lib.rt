@@ -32,10 +32,8 @@ fn small_linear(nodes: &[i64], r: usize) -> bool
     ensures { result ≡ small_linear (node_linear nodes.now r) }
 {
     let mut good = true;
-    let mut i: usize = 0;
-    while i < NUMBERS {
-        good = good & is_small(nodes, r, i + 1);
-        i += 1;
+    for i in 0..NUMBERS {
+        good &= is_small(nodes, r, i + 1);
     }
     good
 }
@@ -46,10 +44,8 @@ fn zeros_from(nodes: &[i64], r: usize, first: usize, count: usize) -> bool
     ensures { result ≡ zeros (take count (drop ((r - 1) * node_words + first) nodes.now)) }
 {
     let mut good = true;
-    let mut i: usize = 0;
-    while i < count {
-        good = good & is_zero(nodes, r, first + i);
-        i += 1;
+    for i in 0..count {
+        good &= is_zero(nodes, r, first + i);
     }
     good
 }
@@ -103,24 +99,14 @@ fn kind_if(good: bool, kind: Kind) -> Kind
 pub fn row_kind(n: u32, a: u32, nodes: &[i64], r: usize) -> Kind
     ensures { result ≡ row_kind n a nodes.now r }
 {
-    if r == 0 {
+    if r == 0 || nodes.len() / NODE_WORDS < r {
         return Kind::Bad;
     }
-    if nodes.len() / NODE_WORDS < r {
-        return Kind::Bad;
+    match kind(nodes, r) {
+        0 => kind_if(good_leaf(a, nodes, r), Kind::Leaf),
+        1 => kind_if(good_condition(n, nodes, r), Kind::Condition),
+        2 => kind_if(good_test(nodes, r), Kind::Test),
+        3 => kind_if(good_none(nodes, r), Kind::None),
+        _ => Kind::Bad,
     }
-    let k = kind(nodes, r);
-    if k == 0 {
-        return kind_if(good_leaf(a, nodes, r), Kind::Leaf);
-    }
-    if k == 1 {
-        return kind_if(good_condition(n, nodes, r), Kind::Condition);
-    }
-    if k == 2 {
-        return kind_if(good_test(nodes, r), Kind::Test);
-    }
-    if k == 3 {
-        return kind_if(good_none(nodes, r), Kind::None);
-    }
-    Kind::Bad
 }

@@ -47,10 +47,7 @@ pub(crate) fn is_among(n: usize, nodes: &[i64], r: usize, i: usize) -> bool
     ensures { result ≡ among_ℤ n (node_word nodes.now r i) }
 {
     let z = word(nodes, r, i);
-    if z < 1 {
-        return false;
-    }
-    mag(z) as usize <= n
+    z >= 1 && mag(z) as usize <= n
 }
 
 // The kind in node r's first word; there is none below 0, and 4 is none.
@@ -59,8 +56,5 @@ pub(crate) fn kind(nodes: &[i64], r: usize) -> usize
     ensures { result ≡ kind_number (node_word nodes.now r 0) }
 {
     let z = word(nodes, r, 0);
-    if z < 0 {
-        return 4;
-    }
-    mag(z) as usize
+    if z < 0 { 4 } else { mag(z) as usize }
 }

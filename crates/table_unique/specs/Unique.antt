@@ -2,8 +2,7 @@
 use Rattle.std.specs.Prelude.{◌≡◌, ℕ, zero, suc, ◌+◌, ◌*◌, ◌/◌, ◌%◌, ◌^◌, ◌<◌, ◌≤◌, cond, List, [], ◌∷◌, length, ℤ, ◌==◌, slice_index}
 use Rattle.std.specs.Int.{w64}
 use Rattle.std.proofs.Common.{of_z}
-use Rattle.table.specs.Table.{node_words, node_at, intern_answer, intern_words, nodes_most}
-use Rattle.table.specs.declared.Made.{Made}
+use Rattle.table.specs.Table.{Answer, count_of, node_words, node_at, intern_answer, intern_words, nodes_most}
 use Rattle.table.specs.declared.Node.{Node}
 
 -- each of a node's words has a share in its hash, by a factor of its own, below this; none waits for another
@@ -61,10 +60,10 @@ pub record Chained (cap : ℕ) (l : List ℤ) (w : List ℕ) (n : ℕ) : Type 0 
   pub apart : Apart l n
 
 -- a look-up or append of x answered r and left the nodes l' and the work words w'
-pub record NodeEntered (cap : ℕ) (l : List ℤ) (w : List ℕ) (n : ℕ) (x : Node) (l' : List ℤ) (w' : List ℕ) (r : Made) : Type 0 where
+pub record NodeEntered (cap : ℕ) (l : List ℤ) (w : List ℕ) (n : ℕ) (x : Node) (l' : List ℤ) (w' : List ℕ) (r : Answer) : Type 0 where
   pub answer : r ≡ intern_answer cap l n x
   pub nodes : l' ≡ intern_words cap l n x
-  pub chained : Chained cap l' w' r.count
+  pub chained : Chained cap l' w' (count_of r)
   pub beyond : (j : ℕ) → cap * 2 ≤ j → slice_index w' j ≡ slice_index w j
   pub nodes_length : length l' ≡ length l
   pub work_length : length w' ≡ length w

@@ -7,8 +7,7 @@ ghost use Rattle.table.specs.Table.{first_node, nodes_most};
 ghost use Rattle.table_unique.specs.Unique.{factors_end, added_of, next_of, bucket_of, hash_of, Chained, NodeEntered};
 
 use std::num::wrapping_add_u64;
-use table::{Made, Node};
-use whole::NUMBERS;
+use table::{Made, Node, Stop, Stopped};
 use whole::limits::bits;
 
 // A node's work words: two for the chains, and six for the cache.
@@ -71,15 +70,11 @@ pub fn hash(x: Node, cap: usize) -> usize
     requires { (0 < cap) × (cap ≤ nodes_most) }
     ensures { (result ≡ hash_of cap x) × (result < cap) }
 {
-    let n = x.n;
     let mut h = added(0, x.kind, KIND_FACTOR);
     let mut k = FIRST_FACTOR;
-    let mut i: usize = 0;
-    while i < NUMBERS {
-        let z = n[i];
-        h = added(h, z, k);
+    for z in &x.n {
+        h = added(h, *z, k);
         k = next(k);
-        i += 1;
     }
     bucket(added(added(h, x.high, HIGH_FACTOR), x.low, LOW_FACTOR), cap)
 }
@@ -102,28 +97,32 @@ fn find(nodes: &[i64], work: &[u32], cap: usize, count: usize, x: Node) -> usize
 }
 
 // Looks a node up, or appends it, or says that the table is full.
-pub fn find_or_make(nodes: &mut [i64], work: &mut [u32], cap: usize, count: usize, x: Node) -> Made
+pub fn find_or_make(
+    nodes: &mut [i64],
+    work: &mut [u32],
+    cap: usize,
+    count: usize,
+    x: Node,
+) -> Result<Made, Stopped>
     requires { Chained cap nodes.old work.old count }
     ensures { NodeEntered cap nodes.old work.old count x nodes.new work.new result }
 {
     let at = find(nodes, work, cap, count, x);
     if at < count {
-        return Made { stop: 0, at, count };
+        return Ok(Made { at, count });
     }
-    if count < cap {
-        table::put(nodes, count, x);
-        let b = hash(x, cap);
-        work[cap + count] = work[b];
-        work[b] = (count + 1) as u32;
-        return Made {
-            stop: 0,
-            at: count,
-            count: count + 1,
-        };
+    if count >= cap {
+        return Err(Stopped {
+            why: Stop::Full,
+            count,
+        });
     }
-    Made {
-        stop: 12,
-        at: 0,
-        count,
-    }
+    table::put(nodes, count, x);
+    let b = hash(x, cap);
+    work[cap + count] = work[b];
+    work[b] = (count + 1) as u32;
+    Ok(Made {
+        at: count,
+        count: count + 1,
+    })
 }

@@ -3,7 +3,7 @@
 
 ghost use Rattle.std.specs.Prelude.{◌≡◌, ◌*ℤ◌, take};
 ghost use Rattle.whole.specs.Divisor.{gcd_all};
-ghost use Rattle.whole.specs.Linears.{coefficients, Smalls, smalls, add_list, sub_list, clipped, clip_list, quot_list, divisor_list, cmp_ℤ, ord_num};
+ghost use Rattle.whole.specs.Linears.{coefficients, Smalls, smalls, add_list, sub_list, clipped, clip_list, quot_list, divisor_list};
 
 use whole::divisors::{at_least_one, gcd, quot};
 use whole::limits::{LIMIT, mag, mul_within};
@@ -99,17 +99,4 @@ pub fn divided(a: [i64; NUMBERS]) -> [i64; NUMBERS]
         out[i] = quot(a[i], g);
     }
     out
-}
-
-// 0, 1, 2: smaller, equal, greater.
-pub fn compare_two(a: i64, b: i64) -> usize
-    ensures { result ≡ ord_num (cmp_ℤ a b) }
-{
-    if a < b {
-        return 0;
-    }
-    if b < a {
-        return 2;
-    }
-    1
 }

@@ -12,12 +12,12 @@ use Rattle.rule_apply.proofs.over_root.Goals as goal
 pub choose-requires : goal.choose-requires
 choose-requires c = (c.requires.0, inr (refl, c.requires.1.below), c.requires.2, c.requires.3)
 
-pub returns-then-op-eq-BEST : goal.returns-then-op-eq-BEST
-returns-then-op-eq-BEST c = ran_as (ap (λ (t : Test). choose t (tree_at c.args.nodes.now c.args.count c.args.h) (tree_at c.args.nodes.now c.args.count c.args.l))
-    (root_test c.requires.0 c.requires.1) ∙ is_choose c.args.op _ _ _ c.if-op-eq-BEST.true) c.choose.ensures
+pub returns-in-Best : goal.returns-in-Best
+returns-in-Best c = ran_as (ap (λ (t : Test). choose t (tree_at c.args.nodes.now c.args.count c.args.h) (tree_at c.args.nodes.now c.args.count c.args.l))
+    (root_test c.requires.0 c.requires.1) ∙ is_choose c.args.rule _ _ _ c.in-Best.is) c.choose.ensures
 
 pub join-requires : goal.join-requires
 join-requires c = (c.requires.0.bare, c.requires.1, c.requires.2, c.requires.3)
 
-pub returns : goal.returns
-returns c = ran_as (is_node c.args.op _ _ _ c.if-op-eq-BEST.false) (lifted c.requires.0 c.join.ensures)
+pub returns-in-Sum : goal.returns-in-Sum
+returns-in-Sum c = ran_as (is_node c.args.rule _ _ _ c.in-Sum.is) (lifted c.requires.0 c.join.ensures)

@@ -1,22 +1,12 @@
-use mathlib.Core.Path.{refl}
-use native.Mathlib.Omega.{arith}
-use Rattle.rule_apply_leaves.proofs.Constants.{coefficient_differs, coefficient_same, coefficients_same}
+-- `rule_apply_leaves::differ_by_constant` meets its contract: two linears have a constant difference where their coefficients are equal.
+use mathlib.Core.Path.{ap}
+use Prim.Native.Nat.{ℕ, ◌+◌, ◌*◌}
+use lib.ListN.{take, drop}
+use Rattle.table.specs.Table.{node_words}
+use Rattle.rule_apply_leaves.proofs.Constants.{eight_from, coefficients_same}
 use Rattle.rule_apply_leaves.proofs.differ_by_constant.Goals as goal
 
-pub loop-k-init : goal.loop-k-init
-loop-k-init c = (omega arith, refl)
-
-pub returns-then-p-q : goal.returns-then-p-q
-returns-then-p-q c = let L = c.loop-k in
-    coefficient_differs c.args.nodes.now c.args.f c.args.g c.requires L.k (omega arith) L.invariant.1 (omega arith) c.if-p-q.true
-
-pub loop-k-preserved : goal.loop-k-preserved
-loop-k-preserved c = let L = c.loop-k in (
-  omega arith,
-  coefficient_same c.args.nodes.now c.args.f c.args.g c.requires L.k (omega arith) L.invariant.1 (omega arith)
-      c.p-1.given c.q-1.given c.if-p-q.false,
-)
-
 pub returns : goal.returns
-returns c = let L = c.loop-k in
-    coefficients_same c.args.nodes.now c.args.f c.args.g c.requires L.k L.invariant.1 c.loop-k-test.false
+returns c =
+    coefficients_same c.args.nodes.now c.args.f c.args.g c.requires (ap (λ (k : ℕ). take k (drop (c.args.f * node_words + 1) c.args.nodes.now)) (eight_from (c.args.f * node_words + 1)))
+    (ap (λ (k : ℕ). take k (drop (c.args.g * node_words + 1) c.args.nodes.now)) (eight_from (c.args.g * node_words + 1))) c.eq.ensures

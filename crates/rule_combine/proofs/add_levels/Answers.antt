@@ -1,6 +1,7 @@
-use mathlib.Core.Path.{◌∙◌}
+use mathlib.Core.Path.{refl, ◌∙◌}
 use native.Mathlib.Omega.{arith}
 use borrow.Author.Rules.{rules}
+use Rattle.rule_node.proofs.Outcomes.{stops, ran_passed}
 use Rattle.table.proofs.Words.{back}
 use Rattle.rule_node.proofs.RuleSteps.{at_in}
 use Rattle.rule_combine.proofs.LinearSteps.{adding_none, added_all, adding_number, adding_asks, adding_stops, adding_one}
@@ -19,23 +20,23 @@ bounds-levels-k c = c.loop-k-test.true
 pub overflow_cast-d : goal.overflow_cast-d
 overflow_cast-d c = omega (arith, c.shared_slice_known-in-loop-k-1.given c.loop-k.k)
 
-pub add_level-s-requires : goal.add_level-s-requires
-add_level-s-requires c = adding_asks c.requires.0 c.args.i c.requires.1 c.requires.3 c.loop-k.invariant c.loop-k-test.true
+pub add_level-requires : goal.add_level-requires
+add_level-requires c = adding_asks c.requires.0 c.args.i c.requires.1 c.requires.3 c.loop-k.invariant c.loop-k-test.true
 
-pub shape_of-nodes-then-s-ne0 : goal.shape_of-nodes-then-s-ne0
-shape_of-nodes-then-s-ne0 c = search (rules, c.add_level-s.auto, c.loop-k.invariant.nodes_length, c.loop-k.invariant.work_length)
+pub shape_of-nodes-in_err-s : goal.shape_of-nodes-in_err-s
+shape_of-nodes-in_err-s c = search (rules, c.add_level.auto, c.loop-k.invariant.nodes_length, c.loop-k.invariant.work_length)
 
-pub shape_of-work-then-s-ne0 : goal.shape_of-work-then-s-ne0
-shape_of-work-then-s-ne0 c = search (rules, c.add_level-s.auto, c.loop-k.invariant.nodes_length, c.loop-k.invariant.work_length)
+pub shape_of-work-in_err-s : goal.shape_of-work-in_err-s
+shape_of-work-in_err-s c = search (rules, c.add_level.auto, c.loop-k.invariant.nodes_length, c.loop-k.invariant.work_length)
 
-pub returns-then-s-ne0 : goal.returns-then-s-ne0
-returns-then-s-ne0 c = adding_stops c.requires.0 c.args.i c.requires.1 c.requires.3 c.loop-k.invariant c.loop-k-test.true
-    (back c.number-c.result c.number-c.type_inv ∙ c.number-c.ensures) c.add_level-s.ensures c.if-s-ne0.true
+pub returns-in_err-s : goal.returns-in_err-s
+returns-in_err-s c = ran_passed (adding_stops c.requires.0 c.args.i c.requires.1 c.requires.3 c.loop-k.invariant c.loop-k-test.true
+    (back c.number-c.result c.number-c.type_inv ∙ c.number-c.ensures) c.in_err-s.ensures (stops c.in_err-s.field-0.0)) c.from_residual.ensures.1
 
 pub loop-k-preserved : goal.loop-k-preserved
 loop-k-preserved c = adding_one c.requires.0 c.args.i c.requires.1 c.requires.3 c.loop-k.invariant c.loop-k-test.true
-    (back c.number-c.result c.number-c.type_inv ∙ c.number-c.ensures) c.add_level-s.ensures c.if-s-ne0.false
-    c.add_level-s.auto.nodes c.add_level-s.auto.work
+    (back c.number-c.result c.number-c.type_inv ∙ c.number-c.ensures) c.in_ok-s.ensures refl
+    c.add_level.auto.nodes c.add_level.auto.work
 
 pub shape_of-nodes : goal.shape_of-nodes
 shape_of-nodes c = search (rules, c.loop-k.invariant.nodes_length)

@@ -6,4 +6,4 @@ use Rattle.table.specs.declared.Node.{Node}
 use Rattle.rule_combine.proofs.number.Goals as goal
 
 pub returns : goal.returns
-returns c = back (get_or c.get-x.result.n c.args.k (pos 0)) c.z-1.given ∙ ap (λ (x : Node). get_or x.n c.args.k (pos 0)) c.get-x.ensures
+returns c = back (get_or c.get.result.n c.args.k (pos 0)) c.result-1.given ∙ ap (λ (x : Node). get_or x.n c.args.k (pos 0)) c.get.ensures

@@ -1,5 +1,7 @@
+use mathlib.Core.Path.{refl}
 use native.Mathlib.Omega.{arith}
 use borrow.Author.Rules.{rules}
+use Rattle.rule_node.proofs.Outcomes.{stops, ran_passed}
 use Rattle.rule_node.proofs.CacheEntries.{room_in, answered, kept_run, keepable}
 use Rattle.rule_node.proofs.RuleSteps.{at_in}
 use Rattle.rule_node.proofs.Meanings.{lasts_walk}
@@ -15,48 +17,48 @@ decide_at-requires t c = (c.requires.0, walk_leaf c.requires.0 c.args.f c.args.g
 pub returns-then-s : goal.returns-then-s
 returns-then-s t c = walk_ends c.requires.0 c.args.f c.args.g c.args.p c.requires.1 c.requires.2 c.requires.3 c.below_at-s.ensures c.if-s.true c.decide_at.ensures
 
-pub look-c-requires : goal.look-c-requires
-look-c-requires t c = (room_in c.requires.0, walk_key c.requires.0 c.args.f c.args.g c.args.p c.requires.1 c.requires.2 c.requires.3)
+pub look-requires : goal.look-requires
+look-requires t c = (room_in c.requires.0, walk_key c.requires.0 c.args.f c.args.g c.args.p c.requires.1 c.requires.2 c.requires.3)
 
-pub returns-then-c-ne0 : goal.returns-then-c-ne0
-returns-then-c-ne0 t c = answered c.requires.0 9 c.args.f c.args.g c.args.p 0 _ (c.look-c.ensures c.if-c-ne0.true)
+pub returns-in-Some : goal.returns-in-Some
+returns-in-Some t c = answered c.requires.0 9 c.args.f c.args.g c.args.p 0 _ c.in-Some.ensures
 
-pub walk-h-requires : goal.walk-h-requires
-walk-h-requires t c = let o = walk_on c.requires.0 c.args.f c.args.g c.args.p c.requires.1 c.requires.2 c.requires.3 c.below_at-s.ensures c.if-s.false in
+pub walk-requires : goal.walk-requires
+walk-requires t c = let o = walk_on c.requires.0 c.args.f c.args.g c.args.p c.requires.1 c.requires.2 c.requires.3 c.below_at-s.ensures c.if-s.false in
     (omega (arith, o.high, c.decreases), (c.requires.0, o.fh, o.gh, c.requires.3))
 
-pub returns-then-h-ne0 : goal.returns-then-h-ne0
-returns-then-h-ne0 t c = let o = walk_on c.requires.0 c.args.f c.args.g c.args.p c.requires.1 c.requires.2 c.requires.3 c.below_at-s.ensures c.if-s.false in
-    high_ended c.args.f c.args.g c.args.p c.requires.3 o c.walk-h.ensures c.if-h-ne0.true
+pub returns-in_err-h : goal.returns-in_err-h
+returns-in_err-h t c = let o = walk_on c.requires.0 c.args.f c.args.g c.args.p c.requires.1 c.requires.2 c.requires.3 c.below_at-s.ensures c.if-s.false in
+    ran_passed (high_ended c.args.f c.args.g c.args.p c.requires.3 o c.in_err-h.ensures (stops c.in_err-h.field-0.0)) c.from_residual.ensures.1
 
-pub walk-l-requires : goal.walk-l-requires
-walk-l-requires t c = let o = walk_on c.requires.0 c.args.f c.args.g c.args.p c.requires.1 c.requires.2 c.requires.3 c.below_at-s.ensures c.if-s.false in
-    (omega (arith, o.low, c.decreases), low_asks c.args.f c.args.g c.args.p c.requires.3 o c.walk-h.ensures)
+pub walk-requires-2 : goal.walk-requires-2
+walk-requires-2 t c = let o = walk_on c.requires.0 c.args.f c.args.g c.args.p c.requires.1 c.requires.2 c.requires.3 c.below_at-s.ensures c.if-s.false in
+    (omega (arith, o.low, c.decreases), low_asks c.args.f c.args.g c.args.p c.requires.3 o c.in_ok-h.ensures)
 
-pub returns-then-l-ne0 : goal.returns-then-l-ne0
-returns-then-l-ne0 t c = let o = walk_on c.requires.0 c.args.f c.args.g c.args.p c.requires.1 c.requires.2 c.requires.3 c.below_at-s.ensures c.if-s.false in
-    low_ended c.args.f c.args.g c.args.p c.requires.3 o c.walk-h.ensures c.if-h-ne0.false c.walk-l.ensures c.if-l-ne0.true
+pub returns-in_err-l : goal.returns-in_err-l
+returns-in_err-l t c = let o = walk_on c.requires.0 c.args.f c.args.g c.args.p c.requires.1 c.requires.2 c.requires.3 c.below_at-s.ensures c.if-s.false in
+    ran_passed (low_ended c.args.f c.args.g c.args.p c.requires.3 o c.in_ok-h.ensures refl c.in_err-l.ensures (stops c.in_err-l.field-0.0)) c.from_residual-in_err-l.ensures.1
 
-pub choose-r-requires : goal.choose-r-requires
-choose-r-requires t c = let o = walk_on c.requires.0 c.args.f c.args.g c.args.p c.requires.1 c.requires.2 c.requires.3 c.below_at-s.ensures c.if-s.false in
-    root_asks c.args.f c.args.g c.args.p c.requires.3 o c.walk-h.ensures c.if-h-ne0.false c.walk-l.ensures c.if-l-ne0.false
+pub choose-requires : goal.choose-requires
+choose-requires t c = let o = walk_on c.requires.0 c.args.f c.args.g c.args.p c.requires.1 c.requires.2 c.requires.3 c.below_at-s.ensures c.if-s.false in
+    root_asks c.args.f c.args.g c.args.p c.requires.3 o c.in_ok-h.ensures refl c.in_ok-l.ensures refl
 
-pub returns-then-r-ne0 : goal.returns-then-r-ne0
-returns-then-r-ne0 t c = let o = walk_on c.requires.0 c.args.f c.args.g c.args.p c.requires.1 c.requires.2 c.requires.3 c.below_at-s.ensures c.if-s.false in
-    root_made c.args.f c.args.g c.args.p c.requires.3 o c.walk-h.ensures c.if-h-ne0.false c.walk-l.ensures c.if-l-ne0.false c.choose-r.ensures
+pub returns-in_err-r : goal.returns-in_err-r
+returns-in_err-r t c = let o = walk_on c.requires.0 c.args.f c.args.g c.args.p c.requires.1 c.requires.2 c.requires.3 c.below_at-s.ensures c.if-s.false in
+    ran_passed (root_made c.args.f c.args.g c.args.p c.requires.3 o c.in_ok-h.ensures refl c.in_ok-l.ensures refl c.in_err-r.ensures) c.from_residual-in_err-r.ensures.1
 
 pub keep-requires : goal.keep-requires
 keep-requires t c = let o = walk_on c.requires.0 c.args.f c.args.g c.args.p c.requires.1 c.requires.2 c.requires.3 c.below_at-s.ensures c.if-s.false in
-    let J = root_made c.args.f c.args.g c.args.p c.requires.3 o c.walk-h.ensures c.if-h-ne0.false c.walk-l.ensures c.if-l-ne0.false c.choose-r.ensures in
-    keepable J c.if-r-ne0.false (walk_key c.requires.0 c.args.f c.args.g c.args.p c.requires.1 c.requires.2 c.requires.3)
+    let J = root_made c.args.f c.args.g c.args.p c.requires.3 o c.in_ok-h.ensures refl c.in_ok-l.ensures refl c.in_ok-r.ensures in
+    keepable J refl (walk_key c.requires.0 c.args.f c.args.g c.args.p c.requires.1 c.requires.2 c.requires.3)
 
 pub shape_of-nodes : goal.shape_of-nodes
-shape_of-nodes t c = search (rules, c.walk-h.auto, c.walk-l.auto, c.choose-r.auto, c.keep.auto)
+shape_of-nodes t c = search (rules, c.walk.auto, c.walk-2.auto, c.choose.auto, c.keep.auto)
 
 pub shape_of-work : goal.shape_of-work
-shape_of-work t c = search (rules, c.walk-h.auto, c.walk-l.auto, c.choose-r.auto, c.keep.auto)
+shape_of-work t c = search (rules, c.walk.auto, c.walk-2.auto, c.choose.auto, c.keep.auto)
 
 pub returns : goal.returns
 returns t c = let o = walk_on c.requires.0 c.args.f c.args.g c.args.p c.requires.1 c.requires.2 c.requires.3 c.below_at-s.ensures c.if-s.false in
-    let J = root_made c.args.f c.args.g c.args.p c.requires.3 o c.walk-h.ensures c.if-h-ne0.false c.walk-l.ensures c.if-l-ne0.false c.choose-r.ensures in
-    kept_run (lasts_walk _ _ c.args.f c.requires.1 c.args.g c.requires.2 c.args.p 0 c.requires.3) J c.if-r-ne0.false c.keep.ensures
+    let J = root_made c.args.f c.args.g c.args.p c.requires.3 o c.in_ok-h.ensures refl c.in_ok-l.ensures refl c.in_ok-r.ensures in
+    kept_run (lasts_walk _ _ c.args.f c.requires.1 c.args.g c.requires.2 c.args.p 0 c.requires.3) J refl c.keep.ensures

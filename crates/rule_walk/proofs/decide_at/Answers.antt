@@ -6,7 +6,7 @@ use Rattle.rule_walk.proofs.decide_at.Goals as goal
 
 pub returns-then-is_constant : goal.returns-then-is_constant
 returns-then-is_constant c = decided_constant c.requires.0 c.args.f c.args.g c.args.p c.requires.1 c.requires.2 c.requires.3 c.get-x.ensures
-    c.is_constant.ensures c.if-is_constant.true c.constant-k.ensures c.decided.ensures
+    c.is_constant.ensures c.if-is_constant.true c.constant.ensures c.decided.ensures
 
 pub choose-requires : goal.choose-requires
 choose-requires c = (c.requires.0, inr (refl, c.requires.1.below), c.requires.2, c.requires.3)

@@ -20,7 +20,7 @@ add_reward-requires c = let h = reward_fit (length c.args.roots.now) c.args.rule
 
 pub merge-requires : goal.merge-requires
 merge-requires c = let h = best_fit (length c.args.roots.now) c.args.rule c.requires.2 c.in-Best.is in
-    (c.requires.0, omega arith, c.requires.1.at _ h.0, c.requires.1.at _ h.1)
+    (c.requires.0, c.requires.1.at _ h.0, c.requires.1.at _ h.1)
 
 pub returns-in-Zero : goal.returns-in-Zero
 returns-in-Zero c = zero_ran c.args.roots.now c.args.rule c.in-Zero.is c.zero.ensures c.requires.0 c.make_leaf.ensures

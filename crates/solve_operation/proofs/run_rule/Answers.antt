@@ -1,5 +1,5 @@
 use native.Mathlib.Omega.{arith}
-use Rattle.solve_operation.proofs.Parts.{trying_starts, trying_asks, trying_again, whole_asks, whole_ends, part_ends}
+use Rattle.solve_operation.proofs.Parts.{trying_starts, trying_asks, trying_again, whole_asks, whole_ends, part_ends, not_full}
 use Rattle.solve_operation.proofs.run_rule.Goals as goal
 
 pub first_part-part-requires : goal.first_part-part-requires
@@ -13,8 +13,8 @@ pub attempt-made-requires : goal.attempt-made-requires
 attempt-made-requires c = let t = trying_asks c.loop-part.invariant in
     (t.0, t.1, c.requires.2, c.requires.3)
 
-pub returns-then-made-ne12 : goal.returns-then-made-ne12
-returns-then-made-ne12 c = part_ends c.loop-part.invariant c.args.roots.now c.args.rule c.attempt-made.ensures c.attempt-made.auto.nodes c.attempt-made.auto.work c.if-made-ne12.true
+pub returns-then-not-is_full : goal.returns-then-not-is_full
+returns-then-not-is_full c = part_ends c.loop-part.invariant c.args.roots.now c.args.rule c.attempt-made.ensures c.attempt-made.auto.nodes c.attempt-made.auto.work (not_full c.attempt-made.result c.is_full.ensures c.if-not-is_full.true)
 
 pub wider_part-part-requires : goal.wider_part-part-requires
 wider_part-part-requires c = (c.loop-part.invariant.some, c.requires.0.few, c.loop-part-test.true)

@@ -4,4 +4,4 @@ use Rattle.table.proofs.none_at.Goals as goal
 
 pub returns : goal.returns
 unfolding node_at
-returns c = none_told _ c.kind-1.given
+returns c = none_told _ c.result-1.given

@@ -6,6 +6,3 @@ use Rattle.table_rows.proofs.small_linear.Given as goal
 
 abbrev pub invariant-loop-i : goal.invariant-loop-i
 invariant-loop-i l = So each_small l.nodes ((l.r - 1) * node_words + 1) (levels_most + 1) l.i l.good
-
-abbrev pub decreases-loop-i : goal.decreases-loop-i
-decreases-loop-i l = levels_most + 1 - l.i

@@ -6,6 +6,3 @@ use Rattle.table_rows.proofs.zeros_from.Given as goal
 
 abbrev pub invariant-loop-i : goal.invariant-loop-i
 invariant-loop-i l = So each_zero l.nodes ((l.r - 1) * node_words + l.first) l.count l.i l.good
-
-abbrev pub decreases-loop-i : goal.decreases-loop-i
-decreases-loop-i l = l.count - l.i

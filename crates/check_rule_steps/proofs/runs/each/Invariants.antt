@@ -6,6 +6,3 @@ use Rattle.check_rule_steps.proofs.runs.each.Given as goal
 
 abbrev pub invariant-loop-i : goal.invariant-loop-i
 invariant-loop-i g l = Table rule_of l.cap l.nodes l.work l.count
-
-abbrev pub decreases-loop-i : goal.decreases-loop-i
-decreases-loop-i g l = 1000 - l.i

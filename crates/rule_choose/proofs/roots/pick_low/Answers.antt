@@ -1,5 +1,6 @@
 -- `rule_choose::roots::pick_low` meets its contract.
-use borrow.Author.Tests.{eq-eqb, ne_eqb}
+use mathlib.Core.Path.{ap}
+use Rattle.std.specs.Ordering.{ordering_index}
 use Rattle.rule_choose.specs.Choice.{pick_low}
 use Rattle.rule_choose.proofs.roots.pick_low.Goals as goal
 
@@ -7,14 +8,14 @@ pub returns-then-y : goal.returns-then-y
 unfolding pick_low
 returns-then-y c = simp c.if-y.true c.ended.ensures
 
-pub returns-then-b-eq2 : goal.returns-then-b-eq2
+pub returns-in-Greater : goal.returns-in-Greater
 unfolding pick_low
-returns-then-b-eq2 c = simp (eq-eqb _ _ c.if-b-eq2.true, c.if-y.false) c.right.ensures
+returns-in-Greater c = simp (ap ordering_index c.in-Greater.is, c.if-y.false) c.right.ensures
 
-pub returns-then-b-eq1 : goal.returns-then-b-eq1
+pub returns-in-Equal : goal.returns-in-Equal
 unfolding pick_low
-returns-then-b-eq1 c = simp (eq-eqb _ _ c.if-b-eq1.true, ne_eqb _ _ c.if-b-eq2.false, c.if-y.false) c.ended-then-b-eq1.ensures
+returns-in-Equal c = simp (ap ordering_index c.in-Equal.is, c.if-y.false) c.ended-in-Equal.ensures
 
-pub returns : goal.returns
+pub returns-in-Less : goal.returns-in-Less
 unfolding pick_low
-returns c = simp (ne_eqb _ _ c.if-b-eq1.false, ne_eqb _ _ c.if-b-eq2.false, c.if-y.false) c.ended-2.ensures
+returns-in-Less c = simp (ap ordering_index c.in-Less.is, c.if-y.false) c.ended-in-Less.ensures

@@ -1,4 +1,5 @@
 -- `rule_unary_node::ways::way_at` meets its contract: only a side compares its condition with the node's test; for a rule below `YES_SIDE` the order counts as 0.
+use Rattle.rule_tests.proofs.Ordered.{index_of}
 use Rattle.rule_unary_node.proofs.WayOn.{way_other, way_side}
 use Rattle.rule_unary_node.proofs.ways.way_at.Goals as goal
 
@@ -9,4 +10,4 @@ pub later-requires : goal.later-requires
 later-requires c = c.requires.1 c.if-op-lt-YES_SIDE.false
 
 pub returns : goal.returns
-returns c = way_side _ c.args.op c.args.p c.below_at-d.ensures c.later.ensures c.order_from-o.ensures c.way-2.ensures c.if-op-lt-YES_SIDE.false
+returns c = way_side _ c.args.op c.args.p c.below_at-d.ensures c.later.ensures (index_of _ c.order_from.ensures) c.way-2.ensures c.if-op-lt-YES_SIDE.false
