@@ -94,10 +94,7 @@ fn test_of(count: usize, s: Step) -> Option<Numbers>
         if s.p >= count {
             return None;
         }
-        return Some(Numbers {
-            p: s.p,
-            q: 11,
-        });
+        return Some(Numbers { p: s.p, q: 11 });
     }
     let k = mag(s.c);
     if k == 0 || k > 4 {

@@ -39,6 +39,6 @@ shape_of-list c = c.loop-n-test.auto.list ∙ c.loop-n.invariant.same
 
 pub returns : goal.returns
 returns c = elim c.loop-n-test.branch [
-    | else-loop-n-test w ↦ subst (Descends _ _ _ _ _) (sym w.list-is) (as_none c.nothing-2.ensures (past_end _ _ _ _ _ _ _ c.requires c.loop-n.invariant (omega (arith, w.loop-n-test.false, c.loop-n.invariant.same))))
-    | then-loop-n-test+in-Atom+else-n-list+else-n-n-end w ↦ let h = w.if-n-list.false in let k = w.loop-n-test.true in absurd (omega (arith, h, k, c.loop-n.auto.n-end))
-  ]
+  | else-loop-n-test w ↦ subst (Descends _ _ _ _ _) (sym w.list-is) (as_none c.nothing-2.ensures (past_end _ _ _ _ _ _ _ c.requires c.loop-n.invariant (omega (arith, w.loop-n-test.false, c.loop-n.invariant.same))))
+  | then-loop-n-test+in-Atom+else-n-list+else-n-n-end w ↦ let h = w.if-n-list.false in let k = w.loop-n-test.true in absurd (omega (arith, h, k, c.loop-n.auto.n-end))
+]

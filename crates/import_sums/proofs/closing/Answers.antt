@@ -11,6 +11,6 @@ returns-then-text-n-eq41 c = closes_well _ _ _ c.requires.0 _ c.requires.1.0 c.r
 
 pub returns : goal.returns
 returns c = elim c.else-n-text.branch [
-    | else-n-text-via-then-n-text+else-text-n-eq41 w ↦ closes_odd _ _ _ c.requires.0 _ c.requires.1.0 c.requires.1.1.0 c.requires.1.1.1 c.if-inner.false w.if-n-text.true w.if-text-n-eq41.false c.over.ensures
-    | else-n-text-via-else-n-text w ↦ closes_end _ _ _ c.requires.0 _ c.requires.1.0 c.requires.1.1.0 c.requires.1.1.1 w.if-n-text.false c.over.ensures
-  ]
+  | else-n-text-via-then-n-text+else-text-n-eq41 w ↦ closes_odd _ _ _ c.requires.0 _ c.requires.1.0 c.requires.1.1.0 c.requires.1.1.1 c.if-inner.false w.if-n-text.true w.if-text-n-eq41.false c.over.ensures
+  | else-n-text-via-else-n-text w ↦ closes_end _ _ _ c.requires.0 _ c.requires.1.0 c.requires.1.1.0 c.requires.1.1.1 w.if-n-text.false c.over.ensures
+]

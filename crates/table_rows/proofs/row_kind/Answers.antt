@@ -7,7 +7,7 @@ use Rattle.table_rows.proofs.row_kind.Goals.{then-r-eq0-via-then-r-eq0, then-r-e
 
 pub returns-then-r-eq0 : goal.returns-then-r-eq0
 returns-then-r-eq0 c = elim c.then-r-eq0.branch [
-  then-r-eq0-via-then-r-eq0 w ↦ none_at_zero _ _ _ _ w.if-r-eq0.true
+  | then-r-eq0-via-then-r-eq0 w ↦ none_at_zero _ _ _ _ w.if-r-eq0.true
   | then-r-eq0-via-else-r-eq0+then-nodes-r w ↦ none_outside _ _ _ _ w.if-r-eq0.false w.if-nodes-r.true
 ]
 

@@ -8,7 +8,7 @@ use Rattle.rule_choose.proofs.roots.first_root.Goals.{then-x-via-then-x, then-x-
 
 pub returns-then-x : goal.returns-then-x
 returns-then-x c = elim c.then-x.branch [
-  then-x-via-then-x w ↦ c.split.ensures ∙ split_high_ends c.args.x c.args.f c.args.y c.args.g _ w.if-x.true
+  | then-x-via-then-x w ↦ c.split.ensures ∙ split_high_ends c.args.x c.args.f c.args.y c.args.g _ w.if-x.true
   | then-x-via-else-x+then-y w ↦ c.split.ensures ∙ split_low_ends c.args.x c.args.f c.args.y c.args.g _ w.if-y.true
 ]
 
