@@ -4,9 +4,8 @@
 // L4, for those of further levels; P for a leaf 0. Other characters stand for nothing. And how such programs read and print.
 #![tactic(auto)]
 
-ghost use Rattle.std.specs.Prelude.{◌≤◌, ◌<◌, length};
+ghost use Rattle.std.specs.Prelude.{◌≤◌, ◌<◌, length, IfSome};
 
-pub mod input; // input.rt: standard input read into an array
 pub mod report; // report.rt: numbers and refusals printed
 
 // Where a byte first stands from an offset on; the length where it does not.
@@ -14,30 +13,23 @@ pub fn find(text: &[u8], from: usize, b: u8) -> usize
     requires { from ≤ length text.now }
     ensures { (from ≤ result) × (result ≤ length text.now) }
 {
-    let mut i = from;
-    while i < text.len() {
+    for i in from..text.len() {
         if text[i] == b {
             return i;
         }
-        i += 1;
     }
-    i
+    text.len()
 }
 
-// The value of a digit, 16 where it is none.
-fn digit(c: u8) -> u8
-    ensures { result ≤ 16 }
+// The value of a digit.
+fn digit(c: u8) -> Option<u8>
+    ensures { IfSome result (λ d. d < 16) }
 {
-    if c < 48 {
-        return 16;
+    match c {
+        b'0'..=b'9' => Some(c - b'0'),
+        b'a'..=b'f' => Some(c - b'a' + 10),
+        _ => None,
     }
-    if c <= 57 {
-        return c - 48;
-    }
-    if c < 97 {
-        return 16;
-    }
-    if c <= 102 { c - 87 } else { 16 }
 }
 
 // Bytes of a number; of a leaf and its numbers; of an action behind the low one; of coefficients behind L4.
@@ -51,7 +43,7 @@ const COEFFICIENTS_MORE: usize = 16;
 
 // How many bytes a character stands for, with the one behind it.
 fn count(c: u8) -> usize {
-    if digit(c) < 16 {
+    if digit(c).is_some() {
         return 1;
     }
     match c {
@@ -72,14 +64,10 @@ fn first(c: u8, d: u8) -> u8 {
     if c == b'P' {
         return 0x10;
     }
-    let high = digit(c);
-    let low = digit(d);
-    if high < 16 {
-        if low < 16 {
-            return high * 16 + low;
-        }
+    match (digit(c), digit(d)) {
+        (Some(high), Some(low)) => high * 16 + low,
+        _ => 0,
     }
-    0
 }
 
 fn put(out: &mut [u8], at: usize, b: u8) {
@@ -92,12 +80,12 @@ fn put(out: &mut [u8], at: usize, b: u8) {
 fn step(c: u8) -> usize
     ensures { (1 ≤ result) × (result ≤ 2) }
 {
-    if digit(c) < 16 { 2 } else { 1 }
+    if digit(c).is_some() { 2 } else { 1 }
 }
 
 // The character at a place, 0 past the end.
 fn char_at(text: &[u8], i: usize) -> u8 {
-    if i < text.len() { text[i] } else { 0 }
+    text.get(i).copied().unwrap_or(0)
 }
 
 // The bytes that a text stands for, into a buffer of zeros as far as there is room; how many.
@@ -106,6 +94,7 @@ pub fn bytes_of(text: &[u8], out: &mut [u8]) -> usize
 {
     let mut at: usize = 0;
     let mut i: usize = 0;
+    // No `for`: a digit goes with the one behind it.
     while i < text.len() {
         let c = text[i];
         let n = count(c);

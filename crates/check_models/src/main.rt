@@ -2,9 +2,9 @@
 // A line without a colon is copied.
 #![tactic(auto)]
 
-use check_hex::input::read_full;
 use check_hex::{find, report};
 use std::io;
+use text_read::read_full;
 
 // The label, then the number and the place.
 fn judge(rt: &impl Print, name: &[u8], text: &[u8], room: &mut [u8]) -> io::Result<()> {

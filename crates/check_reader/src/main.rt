@@ -3,10 +3,10 @@
 // cursor's. A line without a colon is copied.
 #![tactic(auto)]
 
-use check_hex::input::read_full;
 use check_hex::{find, report};
 use model_command::{Command, CommandError};
 use std::io;
+use text_read::read_full;
 
 // A command's byte and its operands of one or two bytes, 0 where it has fewer; byte 0 for an unknown one, 1 for one that is cut.
 #[derive(Clone, Copy)]

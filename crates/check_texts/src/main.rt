@@ -1,9 +1,9 @@
 // Where the texts on standard input stop, a line each: the text, and below it the number and the place.
 #![tactic(auto)]
 
-use check_hex::input::read_full;
 use check_hex::{find, report};
 use std::io;
+use text_read::read_full;
 
 // "Text outside the grammar with 24".
 const OUTSIDE: u32 = 24;

@@ -4,10 +4,10 @@
 
 ghost use Rattle.std.specs.Prelude.{◌<◌};
 
-use check_hex::input::read_full;
 use check_hex::{find, report};
 use std::io;
 use whole::NUMBERS;
+use text_read::read_full;
 
 // Bytes of a number; where the numerators begin, behind the steps left and the mask; where the model begins.
 const WORD: usize = 4;

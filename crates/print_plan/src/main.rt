@@ -1,12 +1,10 @@
 // The listing program: a horizon byte and a model on standard input, the listing of the plan or the refusal on standard output.
 #![tactic(auto)]
 
-mod input; // input.rt: standard input read into an array
-
-use input::read_full;
 use std::io;
 use text_input::MODEL_MOST;
 use text_program::answer;
+use text_read::read_full;
 
 // A horizon byte, and a model of one byte more than is taken: a longer one is refused by its length.
 const ROOM: usize = 2 + MODEL_MOST;

@@ -1,11 +1,11 @@
--- `print_plan::input::read_full` meets its contract: a read puts its bytes behind those that stand, so both are what the reader gave.
+-- `text_read::read_full` meets its contract: a read puts its bytes behind those that stand, so both are what the reader gave.
 use Rattle.std.proofs.Common.{◌≡◌, ℕ, ◌+◌, ◌-◌, ◌≤◌, List, ◌++◌, rules, arith, length, take, slice_range, sym, ap, ◌∙◌, subst, le_refl, drop_at, length-take-le}
 use Rattle.std.proofs.lemmas.Slice.{take-put_mid_below}
 use Rattle.std.specs.Io.KnownBytes.{Consumes}
 use Rattle.std.proofs.KnownBytes.{Consumes-trans}
 use borrow.Rule.Slice.PartMut.{put_mid, post_of}
 use lib.Seq.{take-add, take-append-le}
-use Rattle.print_plan.proofs.input.read_full.Goals as goal
+use Rattle.text_read.proofs.read_full.Goals as goal
 
 -- what stood in front, and what was put behind it
 take_split : (a b : ℕ) (old new : List ℕ) → a ≤ b → take a new ≡ take a old → take a old ++ slice_range new a b ≡ take b new
