@@ -31,10 +31,8 @@ fn add(room: &mut [u8], at: usize, text: &[u8]) -> usize {
 // leaves and one.
 fn fill(room: &mut [u8], turns: usize) -> usize {
     let mut at = add(room, 0, b"S 08 01 01A 01 P");
-    let mut i: usize = 0;
-    while i < turns {
+    for _ in 0..turns {
         at = add(room, at, b"P 11 01");
-        i += 1;
     }
     add(
         room,
