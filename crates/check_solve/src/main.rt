@@ -62,10 +62,8 @@ fn labelled(rt: &impl Print, label: &[u8], x: u64) -> io::Result<()> {
 // Some numbers to the line's end.
 fn numbers(rt: &impl Print, label: &[u8], xs: &[u32]) -> io::Result<()> {
     text(rt, label)?;
-    let mut i: usize = 0;
-    while i < xs.len() {
-        number(rt, xs[i] as u64)?;
-        i += 1;
+    for &x in xs {
+        number(rt, u64::from(x))?;
     }
     text(rt, b"\n")
 }
@@ -81,25 +79,17 @@ fn name_byte(rt: &impl Print, b: u8) -> io::Result<()> {
 
 // The name's number after a byte.
 fn after(k: usize, b: u8) -> usize {
-    if b == b';' {
-        if k < 1000 {
-            return k + 1;
-        }
-    }
-    k
+    if b == b';' && k < 1000 { k + 1 } else { k }
 }
 
 // The name with a number in a list.
 fn print_name(rt: &impl Print, names: &[u8], k: usize) -> io::Result<()> {
     let mut at: usize = 0;
-    let mut i: usize = 0;
-    while i < names.len() {
-        let b = names[i];
+    for &b in names {
         if at == k {
             name_byte(rt, b)?;
         }
         at = after(at, b);
-        i += 1;
     }
     Ok(())
 }
@@ -331,15 +321,13 @@ fn all_steps(
     l: i32,
     d: i32,
 ) -> io::Result<()> {
-    let mut h: u32 = 0;
-    while h <= 9 {
+    for h in 0..10 {
         print_value(
             rt,
             label,
             h,
             value(model, nodes, stages, h, state(mask, l, 0, 0, 0, d)),
         )?;
-        h += 1;
     }
     Ok(())
 }
@@ -459,13 +447,11 @@ fn all_solves(
 ) -> io::Result<()> {
     let mut room: usize = 0;
     let mut peak: usize = 0;
-    let mut i: u32 = 0;
-    while i < 82 {
+    for i in 0..82 {
         let c = case_at(i, room, peak);
         room = c.room;
         peak = solved(rt, models, c, nodes, stages, work)?;
         print_values(rt, i, models, nodes, stages)?;
-        i += 1;
     }
     Ok(())
 }
@@ -478,24 +464,11 @@ fn fresh(models: &[u8; 65536], c: Case, nodes: &mut [i64; NODES]) -> Solved {
 }
 
 fn same_words(a: &[i64; NODES], b: &[i64; NODES]) -> bool {
-    let mut i: usize = 0;
-    while i < NODES {
-        if a[i] != b[i] {
-            return false;
-        }
-        i += 1;
-    }
-    true
+    a == b
 }
 
 fn same_numbers(r: Solved, s: Solved) -> bool {
-    if r.number != s.number {
-        return false;
-    }
-    if r.place != s.place {
-        return false;
-    }
-    r.peak == s.peak
+    r.number == s.number && r.place == s.place && r.peak == s.peak
 }
 
 // One more solve in the lent tables: as in new ones?
@@ -509,10 +482,7 @@ fn again(
     let mut other = [0i64; NODES];
     let s = fresh(models, c, &mut other);
     let r = solve_case(models, c, nodes, stages, work);
-    if same_numbers(r, s) {
-        return same_words(nodes, &other);
-    }
-    false
+    same_numbers(r, s) && same_words(nodes, &other)
 }
 
 // The models in turn at changing horizons.
@@ -535,14 +505,10 @@ fn refilled(
     work: &mut [u32; WORK],
 ) -> io::Result<()> {
     let mut alike: u64 = 0;
-    let mut i: u32 = 0;
-    while i < 240 {
-        if again(models, in_turn(i), nodes, stages, work) {
-            if alike < 240 {
-                alike += 1;
-            }
+    for i in 0..240 {
+        if again(models, in_turn(i), nodes, stages, work) && alike < 240 {
+            alike += 1;
         }
-        i += 1;
     }
     number(rt, alike)?;
     text(rt, b"of 240 as in new tables\n")
