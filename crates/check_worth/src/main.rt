@@ -6,8 +6,8 @@ ghost use Rattle.std.specs.Prelude.{◌<◌};
 
 use check_hex::{find, report};
 use std::io;
-use whole::NUMBERS;
 use text_read::read_full;
+use whole::NUMBERS;
 
 // Bytes of a number; where the numerators begin, behind the steps left and the mask; where the model begins.
 const WORD: usize = 4;
@@ -66,10 +66,8 @@ fn show(rt: &impl Print, v: value_walk::Value) -> io::Result<()> {
 
 fn numerators(input: &[u8]) -> [i32; NUMBERS] {
     let mut n = [0i32; NUMBERS];
-    let mut i: usize = 0;
-    while i < NUMBERS {
+    for i in 0..NUMBERS {
         n[i] = level(input, NUMERATORS + i * WORD);
-        i += 1;
     }
     n
 }
@@ -105,6 +103,7 @@ fn line(rt: &impl Print, text: &[u8]) -> io::Result<()> {
 
 fn lines(rt: &impl Print, text: &[u8]) -> io::Result<()> {
     let mut at: usize = 0;
+    // No `for`: a line has any length.
     while at < text.len() {
         let end = find(text, at, b'\n');
         line(rt, &text[at..end])?;
