@@ -52,12 +52,10 @@ fn signed(rt: &impl Print, z: i64) -> io::Result<()> {
 // The words of a node.
 fn node(rt: &impl Print, nodes: &[i64], at: u32) -> io::Result<()> {
     let from = at as usize * NODE_WORDS;
-    let mut i: usize = 0;
-    while i < NODE_WORDS {
+    for i in 0..NODE_WORDS {
         if from + i < nodes.len() {
             signed(rt, nodes[from + i])?;
         }
-        i += 1;
     }
     text(rt, b"\n")
 }
@@ -73,15 +71,8 @@ struct Stand {
 
 // A digit of the rows, 0 past their end.
 fn digit(rows: &[u8], at: usize, i: usize) -> usize {
-    if at < 65536 {
-        if i < 8 {
-            if at + i < rows.len() {
-                let b = rows[at + i];
-                if 48 <= b {
-                    return (b - 48) as usize;
-                }
-            }
-        }
+    if at < 65536 && i < 8 && at + i < rows.len() && rows[at + i] >= b'0' {
+        return usize::from(rows[at + i] - b'0');
     }
     0
 }
@@ -222,6 +213,7 @@ fn steps(
 {
     let mut r = s;
     let mut at: usize = 0;
+    // No `for`: over a row's six bytes a `step_by` needs a measure too.
     while at < rows.len() {
         r = row(rt, nodes, work, cap, r, roots, rows, at)?;
         if r.stop != 0 {
