@@ -114,6 +114,7 @@ fn step(rt: &impl Print, model: &[u8], rest: &[u8], at: usize, next: usize) -> i
 // Each command up to the model's end.
 fn walk(rt: &impl Print, model: &[u8]) -> io::Result<()> {
     let mut at: usize = 0;
+    // No `for`: a command has its own size.
     while at < model.len() {
         let next = model_command::next_after(model, at);
         step(rt, model, &model[at..], at, next)?;
@@ -142,6 +143,7 @@ fn line(rt: &impl Print, text: &[u8]) -> io::Result<()> {
 
 fn lines(rt: &impl Print, text: &[u8]) -> io::Result<()> {
     let mut at: usize = 0;
+    // No `for`: a line has any length.
     while at < text.len() {
         let end = find(text, at, b'\n');
         line(rt, &text[at..end])?;

@@ -18,6 +18,7 @@ fn line(rt: &impl Print, text: &[u8]) -> io::Result<()> {
 
 fn lines(rt: &impl Print, text: &[u8]) -> io::Result<()> {
     let mut at: usize = 0;
+    // No `for`: a line has any length.
     while at < text.len() {
         let end = find(text, at, b'\n');
         line(rt, &text[at..end])?;
