@@ -11,14 +11,14 @@ use prune_remake::{gone, remake};
 // The stage word of a step that has no diagram.
 const NO_DIAGRAM: u32 = 0;
 
-// Where the stages' rows have gone, in order; answers how many there are.
+// Where the stages' rows have gone, in order; answers how many there are. No row has the number 0.
 fn gather_roots(work: &[u32], cap: usize, stages: &[u32], roots: &mut [u32]) -> usize
     requires { StandingRows cap work.now stages.now × (length stages.now ≤ length roots.old) }
     ensures { Gathered cap work.now stages.now roots.new result }
 {
     let mut k = 0;
     for h in 0..stages.len() {
-        if stages[h] != NO_DIAGRAM {
+        if stages[h] != 0 {
             roots[k] = gone(work, cap, stages[h] as usize) as u32;
             k += 1;
         }

@@ -111,3 +111,13 @@ split_by a b c d x f y g = if a (if b (end_sides f g g) (right_sides f y g)) (if
 pub split_as : (x : Down) (f : ℕ) (y : Down) (g o : ℕ) (a b c d : Bool) → x.ends ≡ a → y.ends ≡ b → eqb o 0 ≡ c → eqb o 1 ≡ d → split_by a b c d x f y g ≡ split_of x f y g o
 unfolding split_of
 split_as x f y g o a b c d e₁ e₂ e₃ e₄ = λ i. split_by (sym e₁ i) (sym e₂ i) (sym e₃ i) (sym e₄ i) x f y g
+
+-- what an order's number says is whether it is 0 and whether it is 1
+pub split_above : (x : Down) (f : ℕ) (y : Down) (g o : ℕ) → (o ≡ 0 → ⊥) → (o ≡ 1 → ⊥) → split_of x f y g 2 ≡ split_of x f y g o
+unfolding split_of
+split_above x f y g o a b = λ i. split_by x.ends y.ends (sym (ne_eqb o 0 a) i) (sym (ne_eqb o 1 b) i) x f y g
+
+-- whether it is 2 and whether it is 1
+pub pick_low_before : (p f : ℕ) (y : Down) (g b : ℕ) → (b ≡ 2 → ⊥) → (b ≡ 1 → ⊥) → pick_low p f y g 0 ≡ pick_low p f y g b
+unfolding pick_low
+pick_low_before p f y g b u v = λ i. if y.ends (end_sides p g g) (if (sym (ne_eqb b 2 u) i) (right_sides f y g) (if (sym (ne_eqb b 1 v) i) (end_sides p g y.low) (end_sides p g g)))

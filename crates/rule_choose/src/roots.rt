@@ -69,7 +69,7 @@ fn ended(f: usize, g: usize, k: usize) -> Sides
 }
 
 // The sides of two nodes by the first root, their order being o.
-pub fn split(x: Down, f: usize, y: Down, g: usize, o: Ordering) -> Sides
+fn split_by(x: Down, f: usize, y: Down, g: usize, o: Ordering) -> Sides
     ensures { result ≡ split_of x f y g (ordering_index o) }
 {
     if x.ends {
@@ -88,8 +88,21 @@ pub fn split(x: Down, f: usize, y: Down, g: usize, o: Ordering) -> Sides
     }
 }
 
+// The same by the order's number: 0 before, 1 equal, any other after.
+pub fn split(x: Down, f: usize, y: Down, g: usize, o: usize) -> Sides
+    ensures { result ≡ split_of x f y g o }
+{
+    if o == 0 {
+        return split_by(x, f, y, g, Ordering::Less);
+    }
+    if o == 1 {
+        return split_by(x, f, y, g, Ordering::Equal);
+    }
+    split_by(x, f, y, g, Ordering::Greater)
+}
+
 // The low operand's part in a choice, the high side being p of f; b is the order of the test and the low root.
-pub fn pick_low(p: usize, f: usize, y: Down, g: usize, b: Ordering) -> Sides
+fn low_by(p: usize, f: usize, y: Down, g: usize, b: Ordering) -> Sides
     ensures { result ≡ pick_low p f y g (ordering_index b) }
 {
     if y.ends {
@@ -102,15 +115,28 @@ pub fn pick_low(p: usize, f: usize, y: Down, g: usize, b: Ordering) -> Sides
     }
 }
 
+// The same by the order's number: 2 after, 1 equal, any other before.
+pub fn pick_low(p: usize, f: usize, y: Down, g: usize, b: usize) -> Sides
+    ensures { result ≡ pick_low p f y g b }
+{
+    if b == 2 {
+        return low_by(p, f, y, g, Ordering::Greater);
+    }
+    if b == 1 {
+        return low_by(p, f, y, g, Ordering::Equal);
+    }
+    low_by(p, f, y, g, Ordering::Less)
+}
+
 // The sides of two roots at f and g by the first; where one ends they need not be compared.
 fn first_root(nodes: &[i64], x: Down, f: usize, y: Down, g: usize) -> Sides
     requires { At nodes.now f × At nodes.now g }
     ensures { result ≡ split_of x f y g (ord_num (order_of (node_at nodes.now f) (node_at nodes.now g))) }
 {
     if x.ends || y.ends {
-        return split(x, f, y, g, Ordering::Less);
+        return split_by(x, f, y, g, Ordering::Less);
     }
-    split(x, f, y, g, order_at(nodes, f, g))
+    split_by(x, f, y, g, order_at(nodes, f, g))
 }
 
 // The low operand's part in a choice by a test of kind k, its numbers in t from i on, the high side being p of f; where the
@@ -129,9 +155,9 @@ fn low_part(
     ensures { result ≡ pick_low p f y g (ord_num (order_of (test_words k (take numbers (drop i t.now))) (node_at nodes.now g))) }
 {
     if y.ends {
-        return pick_low(p, f, y, g, Ordering::Less);
+        return low_by(p, f, y, g, Ordering::Less);
     }
-    pick_low(p, f, y, g, order_to(k, t, i, nodes, g))
+    low_by(p, f, y, g, order_to(k, t, i, nodes, g))
 }
 
 // The sides that a rule goes on with at f and g, by the first root.

@@ -5,7 +5,7 @@ use mathlib.Core.List.{List}
 use mathlib.Core.Logic.{inl}
 use Prim.Native.Nat.{ℕ, ◌≤◌, ◌<◌}
 use native.Mathlib.Omega.{arith}
-use borrow.Author.Tests.{eqb-true, eqb-false, lt-ltb, le-ltb, ltb-false}
+use borrow.Author.Tests.{eqb-true, eqb-false, ne_eqb, lt-ltb, le-ltb, ltb-false}
 use lib.Dec.{ltb, eqb}
 use lib.IntN.{ℤ}
 use Rattle.whole.specs.Cases.{if}
@@ -14,6 +14,7 @@ use Rattle.table.specs.declared.Node.{Node}
 use Rattle.theory.specs.Diagram.{later, Tree, cmp}
 use Rattle.theory.specs.Computation.{Comp}
 use Rattle.theory.specs.Rules.{node, is_later}
+use Rattle.rule_node.specs.Codes.{yes_side_code}
 use Rattle.rule_node.specs.Nodes.{test_held, tree_at, Tested, Good}
 use Rattle.rule_node.specs.EntryMeaning.{test_by}
 use Rattle.rule_node.specs.Roots.{down_of, ord_num, order_of, later_node}
@@ -149,3 +150,8 @@ module _ (x : Node) {d : Down} {r : Way} (op p : ℕ) (ed : d ≡ down_of x) whe
       er ∙ (ap (λ (k : ℕ). way_by d op k) (eo ∙ ap (λ (z : Node). ord_num (order_of x z)) ez)
       ∙ (ap (λ (d : Down). way_by d op (ord_num (order_of x (later_node p)))) ed
       ∙ ap (λ (b : Bool). way_by (down_of x) op (if b 0 (ord_num (order_of x (later_node p))))) (sym (le-ltb op 7 h))))
+
+-- what an order's number says is whether it is 1
+pub way_apart : (d : Down) (op o : ℕ) → (o ≡ 1 → ⊥) → way_by d op 0 ≡ way_by d op o
+unfolding way_by
+way_apart d op o a = λ i. if d.ends End (if (sym (ne_eqb o 1 a) i) (Pick (if (eqb op yes_side_code) d.high d.low)) (Both d.high d.low))

@@ -14,7 +14,7 @@ use rule_tests::{below_at, later, order_from};
 use std::cmp::Ordering;
 
 // The way on from what lies below a node, o being the order of its test and the condition that is picked by.
-pub fn way(d: Down, op: usize, o: Ordering) -> Way
+fn way_on(d: Down, op: usize, o: Ordering) -> Way
     ensures { result ≡ way_by d op (ordering_index o) }
 {
     if d.ends {
@@ -26,6 +26,16 @@ pub fn way(d: Down, op: usize, o: Ordering) -> Way
     Way::Pick(if op == YES_SIDE { d.high } else { d.low })
 }
 
+// The same by the order's number: 1 equal, any other not.
+pub fn way(d: Down, op: usize, o: usize) -> Way
+    ensures { result ≡ way_by d op o }
+{
+    if o == 1 {
+        return way_on(d, op, Ordering::Equal);
+    }
+    way_on(d, op, Ordering::Less)
+}
+
 // What the rule op goes on with at f. Only a side looks for its condition.
 pub fn way_at(nodes: &[i64], op: usize, f: usize, p: usize) -> Way
     requires { At nodes.now f × (yes_side_code ≤ op → p ≤ conditions_most) }
@@ -33,7 +43,7 @@ pub fn way_at(nodes: &[i64], op: usize, f: usize, p: usize) -> Way
 {
     let d = below_at(nodes, f);
     if op < YES_SIDE {
-        return way(d, op, Ordering::Less);
+        return way_on(d, op, Ordering::Less);
     }
-    way(d, op, order_from(nodes, f, later(p)))
+    way_on(d, op, order_from(nodes, f, later(p)))
 }

@@ -11,8 +11,8 @@ use lib.IntN.{ℤ, pos}
 use lib.ListN.{get_or, set, length, take, drop, length-set, length-take, length-drop}
 use lib.Seq.{get_or-set_same, get_or-set_other, length-take-le, ext_get_or, get_or-take, get_or-drop, drop-drop}
 use Rattle.whole.specs.Linears.{numbers}
+use Rattle.whole.proofs.Filled.{Filled, all_filled}
 use borrow.Rule.Slice.PartMut.{put_mid}
-use Rattle.std.specs.List.{between}
 use Rattle.std.proofs.Math.Seq.{take-suc-set}
 use Rattle.std.proofs.lemmas.List.{drop-set-lt, take-append-drop}
 use Rattle.table.specs.declared.Node.{Node}
@@ -210,9 +210,8 @@ put_as l i x {a} {c} {d} {s} h e ea ec ed es =
     λ j. set (set (m j) (i * node_words + high_word) (ec j)) (i * node_words + low_word) (ed j)
 
 -- what was read of a node
-pub get_as : (l : List ℤ) (i : ℕ) {a c d : ℤ} {s : List ℤ} → a ≡ get_or l (i * node_words) (pos 0) → c ≡ get_or l (i * node_words + high_word) (pos 0)
-    → d ≡ get_or l (i * node_words + low_word) (pos 0) → s ≡ between (i * node_words + 1) (i * node_words + high_word) l → ◌≡◌ {A = Node} (record { kind = a; n = s; high = c; low = d }) (node_at l i)
+pub get_as : (l : List ℤ) (i : ℕ) → i * node_words + node_words ≤ length l → {a c d : ℤ} {k : ℕ} {out : List ℤ} → a ≡ get_or l (i * node_words) (pos 0) → c ≡ get_or l
+    (i * node_words + high_word) (pos 0) → d ≡ get_or l (i * node_words + low_word) (pos 0) → Filled numbers (λ j. get_or l (i * node_words + 1 + j) (pos 0)) k out
+    → numbers ≤ k → ◌≡◌ {A = Node} (record { kind = a; n = out; high = c; low = d }) (node_at l i)
 unfolding node_at
-get_as l i ea ec ed es =
-    let n : i * node_words + high_word - (i * node_words + 1) ≡ numbers = omega arith in
-    λ j. record { kind = ea j; n = (es ∙ ap (λ (k : ℕ). take k (drop (i * node_words + 1) l)) n) j; high = ec j; low = ed j }
+get_as l i h ea ec ed F q = λ j. record { kind = ea j; n = all_filled (node_at l i).n F q (numbers_at l i h) (number_at l i) j; high = ec j; low = ed j }

@@ -89,8 +89,11 @@ pub fn get(nodes: &[i64], i: usize) -> Node
     ensures { result ≡ node_at nodes.now i }
 {
     let at = i * NODE_WORDS;
+    // Number by number: a copied slice passes through memory, and rules read nodes more often than all else.
     let mut n = [0; NUMBERS];
-    n.copy_from_slice(&nodes[at + 1..at + HIGH]);
+    for k in 0..NUMBERS {
+        n[k] = nodes[at + 1 + k];
+    }
     Node {
         kind: nodes[at],
         n,

@@ -8,9 +8,9 @@ use Rattle.rule_choose.proofs.roots.first_root.Goals.{then-x-via-then-x, then-x-
 
 pub returns-then-x : goal.returns-then-x
 returns-then-x c = elim c.then-x.branch [
-  | then-x-via-then-x w ↦ c.split.ensures ∙ split_high_ends c.args.x c.args.f c.args.y c.args.g _ w.if-x.true
-  | then-x-via-else-x+then-y w ↦ c.split.ensures ∙ split_low_ends c.args.x c.args.f c.args.y c.args.g _ w.if-y.true
+  | then-x-via-then-x w ↦ c.split_by.ensures ∙ split_high_ends c.args.x c.args.f c.args.y c.args.g _ w.if-x.true
+  | then-x-via-else-x+then-y w ↦ c.split_by.ensures ∙ split_low_ends c.args.x c.args.f c.args.y c.args.g _ w.if-y.true
 ]
 
 pub returns : goal.returns
-returns c = c.split-2.ensures ∙ ap (split_of c.args.x c.args.f c.args.y c.args.g) (index_of _ c.order_at.ensures)
+returns c = c.split_by-2.ensures ∙ ap (split_of c.args.x c.args.f c.args.y c.args.g) (index_of _ c.order_at.ensures)

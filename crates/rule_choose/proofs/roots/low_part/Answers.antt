@@ -6,7 +6,7 @@ use Rattle.rule_tests.proofs.Ordered.{index_of}
 use Rattle.rule_choose.proofs.roots.low_part.Goals as goal
 
 pub returns-then-y : goal.returns-then-y
-returns-then-y c = c.pick_low.ensures ∙ pick_low_ends c.args.f c.args.y c.args.g _ c.args.p c.if-y.true
+returns-then-y c = c.low_by.ensures ∙ pick_low_ends c.args.f c.args.y c.args.g _ c.args.p c.if-y.true
 
 pub returns : goal.returns
-returns c = c.pick_low-2.ensures ∙ ap (pick_low c.args.p c.args.f c.args.y c.args.g) (order_words_as c.args.k _ c.ranges.k.sfits _ (index_of _ c.order_to.ensures))
+returns c = c.low_by-2.ensures ∙ ap (pick_low c.args.p c.args.f c.args.y c.args.g) (order_words_as c.args.k _ c.ranges.k.sfits _ (index_of _ c.order_to.ensures))

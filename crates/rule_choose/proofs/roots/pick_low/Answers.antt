@@ -1,21 +1,7 @@
--- `rule_choose::roots::pick_low` meets its contract.
-use mathlib.Core.Path.{ap}
-use Rattle.std.specs.Ordering.{ordering_index}
-use Rattle.rule_choose.specs.Choice.{pick_low}
+-- `rule_choose::roots::pick_low` meets its contract: of the order's number only whether it is 2 or 1 counts.
+use mathlib.Core.Path.{◌∙◌}
+use Rattle.rule_choose.proofs.RootCases.{pick_low_before}
 use Rattle.rule_choose.proofs.roots.pick_low.Goals as goal
 
-pub returns-then-y : goal.returns-then-y
-unfolding pick_low
-returns-then-y c = simp c.if-y.true c.ended.ensures
-
-pub returns-in-Greater : goal.returns-in-Greater
-unfolding pick_low
-returns-in-Greater c = simp (ap ordering_index c.in-Greater.is, c.if-y.false) c.right.ensures
-
-pub returns-in-Equal : goal.returns-in-Equal
-unfolding pick_low
-returns-in-Equal c = simp (ap ordering_index c.in-Equal.is, c.if-y.false) c.ended-in-Equal.ensures
-
-pub returns-in-Less : goal.returns-in-Less
-unfolding pick_low
-returns-in-Less c = simp (ap ordering_index c.in-Less.is, c.if-y.false) c.ended-in-Less.ensures
+pub returns : goal.returns
+returns c = c.low_by-2.ensures ∙ pick_low_before c.args.p c.args.f c.args.y c.args.g c.args.b c.if-b-eq2.false c.if-b-eq1.false
